@@ -1,0 +1,5 @@
+pub mod Parts
+pub mod Lookups
+pub mod Walk
+pub mod Checks
+pub mod WrittenFiles

@@ -1,0 +1,12 @@
+pub mod Check
+pub mod Refusal
+pub mod Steps
+pub mod Field
+pub mod Text
+pub mod Lists
+pub mod Outside
+pub mod ReadFile
+pub mod SaveFile
+pub mod Fakes
+pub mod MemFiles
+pub mod MemSink
