@@ -48,20 +48,20 @@ words_before : (base size p : ℕ) (cap : Cap) (caps caps' : ℕ → Cap) (nt nt
 words_before base size p cap caps caps' nt nt' g n [] h le out stands small fo fn eo en = absurd (cc)
 words_before base size p cap caps caps' nt nt' g n (x ∷ xs) h le out stands small fo fn eo en = ⊎_elim
     (λ (i : In x size).
-        let k = rw i.0 at h in
-        let ne : nat_eq x (size + cap.owner + 1) ≡ false = eq_no x (size + cap.owner + 1) (λ e. absurd (omega (arith, e, i.1))) in
-        rw (ne, i.0, fo x (λ e. out.0 (sym e)), fn x (λ e. out.0 (sym e)), lt_no cap.owner (caps x).owner (omega (arith, k.0, le)))
-            (ap (λ ws. word base caps nt x ∷ ws) (words_before base size p cap caps caps' nt nt' g n xs k.1 le out.1 (rw ne at stands) small fo fn eo en)))
+    let k = rw i.0 at h in
+    let ne : nat_eq x (size + cap.owner + 1) ≡ false = eq_no x (size + cap.owner + 1) (λ e. absurd (omega (arith, e, i.1))) in
+    rw (ne, i.0, fo x (λ e. out.0 (sym e)), fn x (λ e. out.0 (sym e)), lt_no cap.owner (caps x).owner (omega (arith, k.0, le)))
+    (ap (λ ws. word base caps nt x ∷ ws) (words_before base size p cap caps caps' nt nt' g n xs k.1 le out.1 (rw ne at stands) small fo fn eo en)))
     (λ (q : Out x size).
-        let k = rw q.0 at h in
-        ⊎_elim
-            (λ (same : Yes x (size + cap.owner + 1)).
-                let lt : cap.owner < p + 1 = omega (arith, same.1, k.0) in
-                rw (same.0, q.0, none_low base size cap.owner (p + 1) caps nt xs k.1 lt, all_high base size cap.owner (p + 1) caps nt xs k.1 lt, lt_yes g size small, eo, en)
-                    (ap (λ ws. new_word (base + 16 * g) cap n ∷ ws) (words_same base size caps caps' nt nt' g xs out.1 fo fn)))
-            (λ (other : No x (size + cap.owner + 1)).
-                rw (other.0, q.0) (words_before base size (p + 1) cap caps caps' nt nt' g n xs k.1 (omega (arith, other.1, k.0, le)) out.1 (rw other.0 at stands) small fo fn eo en))
-            (eqb_tells x (size + cap.owner + 1)))
+    let k = rw q.0 at h in
+    ⊎_elim
+    (λ (same : Yes x (size + cap.owner + 1)).
+    let lt : cap.owner < p + 1 = omega (arith, same.1, k.0) in
+    rw (same.0, q.0, none_low base size cap.owner (p + 1) caps nt xs k.1 lt, all_high base size cap.owner (p + 1) caps nt xs k.1 lt, lt_yes g size small, eo, en)
+    (ap (λ ws. new_word (base + 16 * g) cap n ∷ ws) (words_same base size caps caps' nt nt' g xs out.1 fo fn)))
+    (λ (other : No x (size + cap.owner + 1)).
+    rw (other.0, q.0) (words_before base size (p + 1) cap caps caps' nt nt' g n xs k.1 (omega (arith, other.1, k.0, le)) out.1 (rw other.0 at stands) small fo fn eo en))
+    (eqb_tells x (size + cap.owner + 1)))
     (lt_tells x size)
 
 owned_same : (size : ℕ) (ow ow' : ℕ → ℕ) (p g : ℕ) (xs : List ℕ) → NotIn g xs → ((i : ℕ) → i ≢ g → ow' i ≡ ow i) → Owned size ow p xs → Owned size ow' p xs
@@ -76,19 +76,19 @@ pub owned_before : (size o p : ℕ) (ow ow' : ℕ → ℕ) (g : ℕ) (xs : List 
 owned_before size o p ow ow' g [] h le out small fo eo = tt
 owned_before size o p ow ow' g (x ∷ xs) h le out small fo eo = ⊎_elim
     (λ (i : In x size).
-        let k = rw i.0 at h in
-        ⊎_elim
-            (λ (same : Yes x (size + o + 1)). absurd (omega (arith, same.1, i.1)))
-            (λ (other : No x (size + o + 1)). rw (other.0, i.0) (fo x (λ e. out.0 (sym e)) ∙ k.0, owned_before size o p ow ow' g xs k.1 le out.1 small fo eo))
-            (eqb_tells x (size + o + 1)))
+    let k = rw i.0 at h in
+    ⊎_elim
+    (λ (same : Yes x (size + o + 1)). absurd (omega (arith, same.1, i.1)))
+    (λ (other : No x (size + o + 1)). rw (other.0, i.0) (fo x (λ e. out.0 (sym e)) ∙ k.0, owned_before size o p ow ow' g xs k.1 le out.1 small fo eo))
+    (eqb_tells x (size + o + 1)))
     (λ (q : Out x size).
-        let k = rw q.0 at h in
-        ⊎_elim
-            (λ (same : Yes x (size + o + 1)).
-                let po : p ≡ o = omega (arith, same.1, k.0) in
-                rw (same.0, lt_yes g size small, q.0) (eo ∙ sym po, (k.0, owned_same size ow ow' (p + 1) g xs out.1 fo k.1)))
-            (λ (other : No x (size + o + 1)). rw (other.0, q.0) (k.0, owned_before size o (p + 1) ow ow' g xs k.1 (omega (arith, other.1, k.0, le)) out.1 small fo eo))
-            (eqb_tells x (size + o + 1)))
+    let k = rw q.0 at h in
+    ⊎_elim
+    (λ (same : Yes x (size + o + 1)).
+    let po : p ≡ o = omega (arith, same.1, k.0) in
+    rw (same.0, lt_yes g size small, q.0) (eo ∙ sym po, (k.0, owned_same size ow ow' (p + 1) g xs out.1 fo k.1)))
+    (λ (other : No x (size + o + 1)). rw (other.0, q.0) (k.0, owned_before size o (p + 1) ow ow' g xs k.1 (omega (arith, other.1, k.0, le)) out.1 small fo eo))
+    (eqb_tells x (size + o + 1)))
     (lt_tells x size)
 
 -- the words of a chain with one more

@@ -1,6 +1,6 @@
 -- The words of a chain, and where they stand.
-use Rattle.std.proofs.Common.{◌≡◌, ℕ, suc, zero, ◌+◌, ◌*◌, ◌<◌, ◌≤◌, Bool, true, false, List, [], ◌∷◌, cond, refl, ap, sym, ◌∙◌, arith, nat_eq, nat_lt, ⊎_elim, slice_index, inl, inr}
-use Rattle.std.specs.Prelude.{◌≢◌, ◌⊎◌, filter, find, not, Option, Some, None, is_some}
+use Rattle.std.proofs.Common.{◌≡◌, ℕ, suc, zero, ◌+◌, ◌*◌, ◌<◌, ◌≤◌, Bool, true, false, List, [], ◌∷◌, cond, refl, ap, sym, ◌∙◌, arith, nat_eq, nat_lt, ⊎_elim, inl, inr}
+use Rattle.std.specs.Prelude.{◌≢◌, ◌⊎◌, find, Some, None, is_some}
 use Rattle.std.specs.List.{range_with_len}
 use Rattle.std.proofs.lemmas.Bool.Decides.{eqb_tells, leb_tells}
 use Rattle.cap_own.specs.Cap.{Cap}
@@ -55,13 +55,13 @@ pub words_without : (base size : ℕ) (caps : ℕ → Cap) (nt : ℕ → ℕ) (g
 words_without base size caps nt g [] small = refl
 words_without base size caps nt g (x ∷ xs) small = ⊎_elim
     (λ (same : Yes x g). ⊎_elim
-        (λ (i : In x size). rw (same.0, i.0, granule_same base x g same.1) (words_without base size caps nt g xs small))
-        (λ (o : Out x size). absurd (omega (arith, o.1, same.1, small)))
-        (lt_tells x size))
+    (λ (i : In x size). rw (same.0, i.0, granule_same base x g same.1) (words_without base size caps nt g xs small))
+    (λ (o : Out x size). absurd (omega (arith, o.1, same.1, small)))
+    (lt_tells x size))
     (λ (other : No x g). ⊎_elim
-        (λ (i : In x size). rw (other.0, i.0, granule_other base x g other.1) (ap (λ ws. word base caps nt x ∷ ws) (words_without base size caps nt g xs small)))
-        (λ (o : Out x size). rw (other.0, o.0) (words_without base size caps nt g xs small))
-        (lt_tells x size))
+    (λ (i : In x size). rw (other.0, i.0, granule_other base x g other.1) (ap (λ ws. word base caps nt x ∷ ws) (words_without base size caps nt g xs small)))
+    (λ (o : Out x size). rw (other.0, o.0) (words_without base size caps nt g xs small))
+    (lt_tells x size))
     (eqb_tells x g)
 
 -- nothing leaves where nothing stands
@@ -74,13 +74,13 @@ pub owned_without : (size : ℕ) (ow : ℕ → ℕ) (o g : ℕ) (xs : List ℕ) 
 owned_without size ow o g [] small h = tt
 owned_without size ow o g (x ∷ xs) small h = ⊎_elim
     (λ (same : Yes x g). ⊎_elim
-        (λ (i : In x size). rw same.0 (owned_without size ow o g xs small (rw i.0 at h).1))
-        (λ (q : Out x size). absurd (omega (arith, q.1, same.1, small)))
-        (lt_tells x size))
+    (λ (i : In x size). rw same.0 (owned_without size ow o g xs small (rw i.0 at h).1))
+    (λ (q : Out x size). absurd (omega (arith, q.1, same.1, small)))
+    (lt_tells x size))
     (λ (other : No x g). ⊎_elim
-        (λ (i : In x size). let k = rw i.0 at h in rw (other.0, i.0) (k.0, owned_without size ow o g xs small k.1))
-        (λ (q : Out x size). let k = rw q.0 at h in rw (other.0, q.0) (k.0, owned_without size ow (o + 1) g xs small k.1))
-        (lt_tells x size))
+    (λ (i : In x size). let k = rw i.0 at h in rw (other.0, i.0) (k.0, owned_without size ow o g xs small k.1))
+    (λ (q : Out x size). let k = rw q.0 at h in rw (other.0, q.0) (k.0, owned_without size ow (o + 1) g xs small k.1))
+    (lt_tells x size))
     (eqb_tells x g)
 
 -- the word at a granule
@@ -89,13 +89,13 @@ pub find_words : (base size : ℕ) (caps : ℕ → Cap) (nt : ℕ → ℕ) (g : 
 find_words base size caps nt g [] small = refl
 find_words base size caps nt g (x ∷ xs) small = ⊎_elim
     (λ (same : Yes x g). ⊎_elim
-        (λ (i : In x size). rw (same.0, i.0, granule_same base x g same.1) (ap (λ y. Some (word base caps nt y)) same.1))
-        (λ (o : Out x size). absurd (omega (arith, o.1, same.1, small)))
-        (lt_tells x size))
+    (λ (i : In x size). rw (same.0, i.0, granule_same base x g same.1) (ap (λ y. Some (word base caps nt y)) same.1))
+    (λ (o : Out x size). absurd (omega (arith, o.1, same.1, small)))
+    (lt_tells x size))
     (λ (other : No x g). ⊎_elim
-        (λ (i : In x size). rw (other.0, i.0, granule_other base x g other.1) (find_words base size caps nt g xs small))
-        (λ (o : Out x size). rw (other.0, o.0) (find_words base size caps nt g xs small))
-        (lt_tells x size))
+    (λ (i : In x size). rw (other.0, i.0, granule_other base x g other.1) (find_words base size caps nt g xs small))
+    (λ (o : Out x size). rw (other.0, o.0) (find_words base size caps nt g xs small))
+    (lt_tells x size))
     (eqb_tells x g)
 
 is_some_cond : (b : Bool) (w : TaggedWord) → is_some (cond b (Some w) None) ≡ b
@@ -126,18 +126,19 @@ pub tagged_from : (base size : ℕ) (caps : ℕ → Cap) (nt : ℕ → ℕ) (a :
 tagged_from base size caps nt a [] h = absurd (cc)
 tagged_from base size caps nt a (x ∷ xs) h = ⊎_elim
     (λ (i : In x size). ⊎_elim
-        (λ (q : Yes (base + 16 * x) a). record { g = x; below = i.1; is = sym q.1; stands = here x xs })
-        (λ (q : No (base + 16 * x) a).
-            let f = tagged_from base size caps nt a xs (rw (i.0, q.0) at h) in
-            record { g = f.g; below = f.below; is = f.is; stands = later f.g x xs f.stands })
-        (eqb_tells (base + 16 * x) a))
+    (λ (q : Yes (base + 16 * x) a). record { g = x; below = i.1; is = sym q.1; stands = here x xs })
+    (λ (q : No (base + 16 * x) a).
+    let f = tagged_from base size caps nt a xs (rw (i.0, q.0) at h) in
+    record { g = f.g; below = f.below; is = f.is; stands = later f.g x xs f.stands })
+    (eqb_tells (base + 16 * x) a))
     (λ (o : Out x size).
-        let f = tagged_from base size caps nt a xs (rw o.0 at h) in
-        record { g = f.g; below = f.below; is = f.is; stands = later f.g x xs f.stands })
+    let f = tagged_from base size caps nt a xs (rw o.0 at h) in
+    record { g = f.g; below = f.below; is = f.is; stands = later f.g x xs f.stands })
     (lt_tells x size)
   where
     here : (x : ℕ) (xs : List ℕ) → has x (x ∷ xs) ≡ true
     here x xs = rw (eq_yes x x refl) refl
+
     later : (g x : ℕ) (xs : List ℕ) → has g xs ≡ true → has g (x ∷ xs) ≡ true
     later g x xs h = ⊎_elim (λ (q : Yes x g). rw q.0 refl) (λ (q : No x g). rw q.0 h) (eqb_tells x g)
 

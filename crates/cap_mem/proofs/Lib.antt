@@ -9,3 +9,4 @@ pub mod Touched
 pub mod Entered
 pub mod Following
 pub mod Sound
+pub mod Walks

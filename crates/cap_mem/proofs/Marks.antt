@@ -10,17 +10,19 @@ pub marked_more : (ns ps : List ℕ) (size n : ℕ) → size + n + 1 < length ns
 marked_more ns ps size n nl pl before k low = ⊎_elim
     (λ (same : Yes k n). rw same.1 (get_or-set_same ns (size + n) (size + n + 1) 0 (omega arith), get_or-set_same ps (size + n + 1) (size + n) 0 (omega arith)))
     (λ (other : No k n).
-        let b = before k (omega (arith, other.1)) in
-        (get_or-set_other ns (size + n) (size + k) (size + n + 1) 0 (λ e. other.1 (omega (arith, e))) ∙ b.0,
-         get_or-set_other ps (size + n + 1) (size + k + 1) (size + n) 0 (λ e. other.1 (omega (arith, e))) ∙ b.1))
+    let b = before k (omega (arith, other.1)) in (
+      get_or-set_other ns (size + n) (size + k) (size + n + 1) 0 (λ e. other.1 (omega (arith, e))) ∙ b.0,
+      get_or-set_other ps (size + n + 1) (size + k + 1) (size + n) 0 (λ e. other.1 (omega (arith, e))) ∙ b.1,
+    ))
     (eqb_tells k n)
 
 linked_marks : (ns ps : List ℕ) (size n p : ℕ) → ((k : ℕ) → p ≤ k → k < p + n → (slice_index ns k ≡ k + 1) × (slice_index ps (k + 1) ≡ k))
     → LinkedFrom (λ i. slice_index ns i) (λ i. slice_index ps i) p (range_with_len (p + 1) n)
 linked_marks ns ps size zero p h = tt
-linked_marks ns ps size (suc n) p h =
-    (record { ahead = (h p (omega arith) (omega arith)).0; back = (h p (omega arith) (omega arith)).1 },
-     linked_marks ns ps size n (p + 1) (λ k from to. h k (omega (arith, from)) (omega (arith, to))))
+linked_marks ns ps size (suc n) p h = (
+  record { ahead = (h p (omega arith) (omega arith)).0; back = (h p (omega arith) (omega arith)).1 },
+  linked_marks ns ps size n (p + 1) (λ k from to. h k (omega (arith, from)) (omega (arith, to))),
+)
 
 pub notin_range : (x a n : ℕ) → x < a → NotIn x (range_with_len a n)
 notin_range x a zero h = tt

@@ -1,10 +1,10 @@
 -- What the tables of a memory give for all its words.
-use Rattle.std.proofs.Common.{◌≡◌, ℕ, suc, zero, ◌+◌, ◌-◌, ◌*◌, ◌%◌, ◌<◌, ◌≤◌, true, false, List, [], ◌∷◌, length, All, AllPairs, refl, ap, sym, ◌∙◌, arith, ⊎_elim, subst}
+use Rattle.std.proofs.Common.{◌≡◌, ℕ, suc, zero, ◌+◌, ◌-◌, ◌*◌, ◌<◌, ◌≤◌, true, List, [], ◌∷◌, All, AllPairs, refl, ap, sym, ◌∙◌, arith, ⊎_elim, subst}
 use Rattle.std.specs.Prelude.{◌≢◌}
 use Rattle.std.proofs.lemmas.List.Kept.{AllPairs-cons}
 use Rattle.std.proofs.lemmas.Bool.Decides.{eqb_tells}
-use Rattle.cap_own.specs.Cap.{Cap, word_of_cap}
-use Rattle.cap_mem.specs.Tagged.{TaggedMemory, TaggedWord, word_in}
+use Rattle.cap_own.specs.Cap.{Cap}
+use Rattle.cap_mem.specs.Tagged.{TaggedWord, word_in}
 use Rattle.cap_mem.specs.IsMemory.{IsHeld, IsMemory}
 use Rattle.cap_mem.specs.Held.{words_of}
 use Rattle.cap_mem.specs.Chain.{has, NotIn, IsApart}
@@ -35,6 +35,7 @@ all_words P base size caps nt (x ∷ xs) h = ⊎_elim
   where
     first : (x : ℕ) (xs : List ℕ) → has x (x ∷ xs) ≡ true
     first x xs = rw (eq_yes x x refl) refl
+
     later : (g x : ℕ) (xs : List ℕ) → has g xs ≡ true → has g (x ∷ xs) ≡ true
     later g x xs s = ⊎_elim (λ (q : Yes x g). rw q.0 refl) (λ (q : No x g). rw q.0 s) (eqb_tells x g)
 
@@ -50,8 +51,8 @@ words_distinct : (base size : ℕ) (caps : ℕ → Cap) (nt : ℕ → ℕ) (xs :
 words_distinct base size caps nt [] h = pairs_none (λ v w. v.granule ≢ w.granule)
 words_distinct base size caps nt (x ∷ xs) h = ⊎_elim
     (λ (i : In x size). rw i.0 (AllPairs-cons (λ v w. v.granule ≢ w.granule) (word base caps nt x) (words_of base size caps nt xs)
-        (all_words (λ w. base + 16 * x ≢ w.granule) base size caps nt xs (λ g low s. λ e. not_in x g xs h.0 s (omega (arith, e))))
-        (words_distinct base size caps nt xs h.1)))
+    (all_words (λ w. base + 16 * x ≢ w.granule) base size caps nt xs (λ g low s. λ e. not_in x g xs h.0 s (omega (arith, e))))
+    (words_distinct base size caps nt xs h.1)))
     (λ (o : Out x size). rw o.0 (words_distinct base size caps nt xs h.1))
     (lt_tells x size)
 
@@ -67,7 +68,7 @@ words_ascend : (base size p : ℕ) (caps : ℕ → Cap) (nt : ℕ → ℕ) (xs :
 words_ascend base size p caps nt [] h = pairs_none (λ v w. v.cap.owner ≤ w.cap.owner)
 words_ascend base size p caps nt (x ∷ xs) h = ⊎_elim
     (λ (i : In x size). let k = rw i.0 at h in rw i.0 (AllPairs-cons (λ v w. v.cap.owner ≤ w.cap.owner) (word base caps nt x) (words_of base size caps nt xs)
-        (owners_above base size (caps x).owner p caps nt xs k.1 (omega (arith, k.0))) (words_ascend base size p caps nt xs k.1)))
+    (owners_above base size (caps x).owner p caps nt xs k.1 (omega (arith, k.0))) (words_ascend base size p caps nt xs k.1)))
     (λ (q : Out x size). let k = rw q.0 at h in rw q.0 (words_ascend base size (p + 1) caps nt xs k.1))
     (lt_tells x size)
 

@@ -1,19 +1,18 @@
 -- The words in the bytes, and the capabilities that they are.
-use Rattle.std.proofs.Common.{◌≡◌, ℕ, suc, zero, ◌+◌, ◌-◌, ◌*◌, ◌<◌, ◌≤◌, ◌^◌, Bool, true, false, List, [], ◌∷◌, ◌++◌, length, take, drop, refl, ap, sym, ◌∙◌, arith, nat_eq, nat_lt, ⊎_elim, subst, get_or, set, slice_index, min, max, inl, inr, append_assoc, length-append}
+use Rattle.std.proofs.Common.{◌≡◌, ℕ, suc, zero, ◌+◌, ◌-◌, ◌*◌, ◌<◌, ◌≤◌, ◌^◌, Bool, true, false, List, [], ◌∷◌, ◌++◌, length, take, drop, refl, ap, sym, ◌∙◌, arith, nat_eq, ⊎_elim, subst, slice_index, min, max, inl, inr, append_assoc, length-append}
 use Rattle.std.specs.Prelude.{◌≢◌, ◌⊎◌}
 use Rattle.std.specs.List.{replace_range}
 use Rattle.std.proofs.lemmas.Bool.{cases_lt}
 use Rattle.std.proofs.lemmas.Bool.Decides.{eqb_tells}
-use Rattle.std.proofs.lemmas.List.{get_or-drop, get_or-take, get_or_append_left, get_or-append_right, length-take-le, drop-append-le, length-drop}
-use Rattle.std.proofs.Math.Seq.{drop-append-add, drop-append_seam}
-use Rattle.byteorder.specs.Endian.{little_from, little_bytes}
+use Rattle.std.proofs.lemmas.List.{get_or-drop, get_or-take, get_or_append_left, get_or-append_right, length-take-le, length-drop}
+use Rattle.std.proofs.Math.Seq.{drop-append_seam}
+use Rattle.byteorder.specs.Endian.{little_from}
 use Rattle.byteorder.specs.Numbers.{little_number-reads_back, length-bytes_low_first}
 use Rattle.cap_base.specs.Field.{number_at, number_bytes}
 use Rattle.cap_conc.specs.declared.word.Word.{Word}
-use Rattle.cap_conc.specs.declared.word.Fields.{Fields}
 use Rattle.cap_conc.specs.Computed.{fields_of}
-use Rattle.cap_own.specs.Cap.{Cap, Grant, Mapping, IsGrant, object_type, word_of_cap, fields_of_cap}
-use Rattle.cap_mem.specs.Tagged.{TaggedWord, word_in, word_bytes, is_touched}
+use Rattle.cap_own.specs.Cap.{Cap, Grant, IsGrant, object_type, word_of_cap, fields_of_cap}
+use Rattle.cap_mem.specs.Tagged.{word_in, word_bytes, is_touched}
 use Rattle.cap_mem.specs.Held.{fields_in, cap_of_fields, cap_in, IsCapAt, HasStored, AreCaps, words_of}
 use Rattle.cap_mem.specs.Chain.{has, without, with_before}
 use Rattle.cap_mem.proofs.Chains.{Yes, No}
@@ -65,9 +64,9 @@ outside : (base at len g k : ℕ) → base ≤ at → is_touched at len (base + 
 outside base at len g k from free lo hi = ⊎_elim
     (λ (i : In (max at (base + 16 * g)) (min (at + len) (base + 16 * g + 16))). let yes = i.0 in absurd (cc))
     (λ (o : Out (max at (base + 16 * g)) (min (at + len) (base + 16 * g + 16))). ⊎_elim
-        (λ (b : k < at - base). inl b)
-        (λ (b : at - base ≤ k). inr (omega (arith, o.1, b, from, lo, hi)))
-        (cases_lt k (at - base)))
+    (λ (b : k < at - base). inl b)
+    (λ (b : at - base ≤ k). inr (omega (arith, o.1, b, from, lo, hi)))
+    (cases_lt k (at - base)))
     (lt_tells (max at (base + 16 * g)) (min (at + len) (base + 16 * g + 16)))
 
 word_kept : (xs ys : List ℕ) (base at len g : ℕ) → length ys ≡ len → base ≤ at → at - base + len ≤ length xs → is_touched at len (base + 16 * g) ≡ false
@@ -107,14 +106,15 @@ words_equal : (base size : ℕ) (caps caps' : ℕ → Cap) (nt : ℕ → ℕ) (c
 words_equal base size caps caps' nt [] h = refl
 words_equal base size caps caps' nt (x ∷ xs) h = ⊎_elim
     (λ (i : In x size).
-        let here : caps' x ≡ caps x = h x i.1 (first x xs) in
-        let rest = words_equal base size caps caps' nt xs (λ g below stands. h g below (later g x xs stands)) in
-        rw i.0 (ap (λ c. (record { granule = base + 16 * x; cap = c; note = nt x }) ∷ words_of base size caps' nt xs) here ∙ ap (λ ws. word base caps nt x ∷ ws) rest))
+    let here : caps' x ≡ caps x = h x i.1 (first x xs) in
+    let rest = words_equal base size caps caps' nt xs (λ g below stands. h g below (later g x xs stands)) in
+    rw i.0 (ap (λ c. (record { granule = base + 16 * x; cap = c; note = nt x }) ∷ words_of base size caps' nt xs) here ∙ ap (λ ws. word base caps nt x ∷ ws) rest))
     (λ (o : Out x size). rw o.0 (words_equal base size caps caps' nt xs (λ g below stands. h g below (later g x xs stands))))
     (lt_tells x size)
   where
     first : (x : ℕ) (xs : List ℕ) → has x (x ∷ xs) ≡ true
     first x xs = ⊎_elim (λ (q : Yes x x). rw q.0 refl) (λ (q : No x x). absurd (q.1 refl)) (eqb_tells x x)
+
     later : (g x : ℕ) (xs : List ℕ) → has g xs ≡ true → has g (x ∷ xs) ≡ true
     later g x xs s = ⊎_elim (λ (q : Yes x g). rw q.0 refl) (λ (q : No x g). rw q.0 s) (eqb_tells x g)
 
@@ -123,7 +123,7 @@ pub words_kept : (xs ys : List ℕ) (owners nt : ℕ → ℕ) (base at len size 
     → words_of base size (λ g. cap_in (replace_range xs (at - base) (at - base + len) ys) (16 * g) (owners g)) nt chain ≡ words_of base size (λ g. cap_in xs (16 * g) (owners g)) nt chain
 words_kept xs ys owners nt base at len size chain is from fits free =
     words_equal base size (λ g. cap_in xs (16 * g) (owners g)) (λ g. cap_in (replace_range xs (at - base) (at - base + len) ys) (16 * g) (owners g)) nt chain
-        (λ g below stands. cap_same (replace_range xs (at - base) (at - base + len) ys) xs (16 * g) (owners g) (word_kept xs ys base at len g is from fits (free g below stands)))
+    (λ g below stands. cap_same (replace_range xs (at - base) (at - base + len) ys) xs (16 * g) (owners g) (word_kept xs ys base at len g is from fits (free g below stands)))
 
 -- the granules that stay hold what they held
 pub caps_without : (bytes : List ℕ) (owners : ℕ → ℕ) (size g : ℕ) (chain : List ℕ) → AreCaps bytes owners size chain → AreCaps bytes owners size (without g chain)
@@ -138,15 +138,15 @@ pub caps_before : (bytes : List ℕ) (owners owners' : ℕ → ℕ) (size g s : 
     → AreCaps bytes owners size chain → AreCaps bytes owners' size (with_before g s chain)
 caps_before bytes owners owners' size g s chain derived mark others own stored granted caps k below stands = ⊎_elim
     (λ (q : Yes k g).
-        let e : owners' k ≡ derived.cap.owner = ap owners' q.1 ∙ own in
-        rw (q.1, own) (record {
-          bytes_are = stored.bytes_are ∙ ap word_of_cap (sym stored.decodes);
-          root = derived.root;
-          granted = subst (λ (c : Cap). IsGrant (record { root = derived.root; cap = c })) (sym stored.decodes) granted;
-        }))
+    let e : owners' k ≡ derived.cap.owner = ap owners' q.1 ∙ own in
+    rw (q.1, own) (record {
+      bytes_are = stored.bytes_are ∙ ap word_of_cap (sym stored.decodes);
+      root = derived.root;
+      granted = subst (λ (c : Cap). IsGrant (record { root = derived.root; cap = c })) (sym stored.decodes) granted;
+    }))
     (λ (q : No k g).
-        let here : has k chain ≡ true = rw q.0 at (sym (has_put k g s chain mark) ∙ stands) in
-        subst (λ (o : ℕ). IsCapAt bytes (16 * k) o) (sym (others k q.1)) (caps k below here))
+    let here : has k chain ≡ true = rw q.0 at (sym (has_put k g s chain mark) ∙ stands) in
+    subst (λ (o : ℕ). IsCapAt bytes (16 * k) o) (sym (others k q.1)) (caps k below here))
     (eqb_tells k g)
 
 -- the word that was put there reads back
@@ -169,11 +169,11 @@ pub reads_back : (xs : List ℕ) (o : ℕ) (w : Word) → o ≤ length xs → w.
 reads_back xs o w fits small_address small_meta =
     let rest : List ℕ = drop (o + 16) xs in
     let address : number_at 8 (replace_range xs o (o + 16) (word_bytes w)) o ≡ w.address =
-        ap (little_from 0 8) (drop_front xs (word_bytes w) (drop (o + 16) xs) o fits ∙ append_assoc (number_bytes 8 w.address) (number_bytes 8 w.meta) (drop (o + 16) xs))
-        ∙ little_number-reads_back 8 w.address (number_bytes 8 w.meta ++ drop (o + 16) xs) small_address in
+    ap (little_from 0 8) (drop_front xs (word_bytes w) (drop (o + 16) xs) o fits ∙ append_assoc (number_bytes 8 w.address) (number_bytes 8 w.meta) (drop (o + 16) xs))
+    ∙ little_number-reads_back 8 w.address (number_bytes 8 w.meta ++ drop (o + 16) xs) small_address in
     let meta : number_at 8 (replace_range xs o (o + 16) (word_bytes w)) (o + 8) ≡ w.meta =
-        ap (little_from 0 8) (drop_more xs (number_bytes 8 w.address) (number_bytes 8 w.meta) (drop (o + 16) xs) o 8 fits (length-bytes_low_first 0 8 w.address))
-        ∙ little_number-reads_back 8 w.meta (drop (o + 16) xs) small_meta in
+    ap (little_from 0 8) (drop_more xs (number_bytes 8 w.address) (number_bytes 8 w.meta) (drop (o + 16) xs) o 8 fits (length-bytes_low_first 0 8 w.address))
+    ∙ little_number-reads_back 8 w.meta (drop (o + 16) xs) small_meta in
     ap (λ a. word_from a (number_at 8 (replace_range xs o (o + 16) (word_bytes w)) (o + 8))) address ∙ ap (word_from w.address) meta
 
 -- and decodes to the capability
@@ -198,7 +198,7 @@ pub stored_word : (xs ys : List ℕ) (o len : ℕ) (w : Word) (cap : Cap) → ys
     → w ≡ word_of_cap cap → fields_of w ≡ fields_of_cap cap → HasStored (replace_range xs o (o + len) ys) o cap
 stored_word xs ys o len w cap is size fits small_address small_meta word fields =
     let back : word_in (replace_range xs o (o + len) ys) o ≡ w =
-        ap (λ bs. word_in (replace_range xs o (o + len) bs) o) is ∙ ap (λ n. word_in (replace_range xs o (o + n) (word_bytes w)) o) size ∙ reads_back xs o w fits small_address small_meta in
+    ap (λ bs. word_in (replace_range xs o (o + len) bs) o) is ∙ ap (λ n. word_in (replace_range xs o (o + n) (word_bytes w)) o) size ∙ reads_back xs o w fits small_address small_meta in
     record {
       bytes_are = back ∙ word;
       decodes = ap (λ f. cap_of_fields f cap.owner) (fields_at (replace_range xs o (o + len) ys) o w back ∙ fields) ∙ cap_is cap;

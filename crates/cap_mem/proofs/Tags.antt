@@ -1,6 +1,6 @@
 -- The bits of a chain, and the first of the tagged granules.
-use Rattle.std.proofs.Common.{◌≡◌, ℕ, suc, zero, ◌+◌, ◌*◌, ◌/◌, ◌%◌, ◌<◌, ◌≤◌, Bool, true, false, not, ◌&&◌, ◌||◌, List, [], ◌∷◌, refl, ap, sym, ◌∙◌, arith, nat_eq, nat_lt, ⊎_elim, inl, inr, subst, replicate, slice_index, min}
-use Rattle.std.specs.Prelude.{◌≢◌, ◌⊎◌, filter, find, map, nat_le, Option, Some, None, is_some, fold}
+use Rattle.std.proofs.Common.{◌≡◌, ℕ, suc, zero, ◌+◌, ◌*◌, ◌/◌, ◌%◌, ◌<◌, ◌≤◌, Bool, true, false, not, ◌&&◌, ◌||◌, List, [], ◌∷◌, refl, ap, sym, ◌∙◌, arith, nat_eq, ⊎_elim, inl, inr, subst, replicate, slice_index, min}
+use Rattle.std.specs.Prelude.{◌≢◌, ◌⊎◌, filter, find, map, nat_le, Some, None, is_some, fold}
 use Rattle.std.specs.List.{range_with_len, reduce}
 use Rattle.std.specs.Int.{bit_at}
 use Rattle.std.proofs.lemmas.Nat.Bits.{bit_at-zero}
@@ -27,9 +27,9 @@ pub tagged_some : (m : Inside) → AreTables m → (ws : List ℕ) (start from g
 tagged_some m i ws start from g e f reaches least =
     let one : bit_in m.tags.items g ≡ true = subst (λ (xs : List ℕ). bit_in xs g ≡ true) e f.one in
     let below : g < m.links.size = ⊎_elim
-        (λ (q : In g m.links.size). q.1)
-        (λ (q : Out g m.links.size). let low = i.none_past g q.1 in absurd (cc))
-        (lt_tells g m.links.size) in
+    (λ (q : In g m.links.size). q.1)
+    (λ (q : Out g m.links.size). let low = i.none_past g q.1 in absurd (cc))
+    (lt_tells g m.links.size) in
     let order : start ≤ g = f.order in
     record {
       tagged = tagged_is m g below ∙ sym (i.tagged g below) ∙ one;
@@ -58,9 +58,9 @@ NoneBetween from r ws = (a : ℕ) → from ≤ a → a < r → any_at a ws ≡ f
 reaches_r : (from r : ℕ) (w : TaggedWord) (ws : List TaggedWord) → NoneBetween from r (w ∷ ws) → from ≤ w.granule → r ≤ w.granule
 reaches_r from r w ws none lo = ⊎_elim
     (λ (i : In w.granule r).
-        let no = none w.granule lo i.1 in
-        let off = rw (eq_yes w.granule w.granule refl) at no in
-        absurd (cc))
+    let no = none w.granule lo i.1 in
+    let off = rw (eq_yes w.granule w.granule refl) at no in
+    absurd (cc))
     (λ (o : Out w.granule r). o.1)
     (lt_tells w.granule r)
 
@@ -79,10 +79,10 @@ fold_least [] acc from r lo le (inl e) none = e
 fold_least [] acc from r lo le (inr t) none = absurd (cc)
 fold_least (w ∷ ws) acc from r lo le some none = ⊎_elim
     (λ (q : Le from w.granule).
-        let far = reaches_r from r w ws none q.1 in
-        rw q.0 (fold_least ws (min acc w.granule) from r lo (omega (arith, far, le)) (next some far) (λ a f t. any_later a w ws (none a f t))))
+    let far = reaches_r from r w ws none q.1 in
+    rw q.0 (fold_least ws (min acc w.granule) from r lo (omega (arith, far, le)) (next some far) (λ a f t. any_later a w ws (none a f t))))
     (λ (q : Gt from w.granule).
-        rw q.0 (fold_least ws acc from r lo le (skip some (omega (arith, q.1, lo))) (λ a f t. any_later a w ws (none a f t))))
+    rw q.0 (fold_least ws acc from r lo le (skip some (omega (arith, q.1, lo))) (λ a f t. any_later a w ws (none a f t))))
     (leb_tells from w.granule)
   where
     next : (acc ≡ r) ⊎ (any_at r (w ∷ ws) ≡ true) → r ≤ w.granule → (min acc w.granule ≡ r) ⊎ (any_at r ws ≡ true)
@@ -91,6 +91,7 @@ fold_least (w ∷ ws) acc from r lo le some none = ⊎_elim
         (λ (q : Yes w.granule r). inl (omega (arith, q.1, le)))
         (λ (q : No w.granule r). inr (rw q.0 at t))
         (eqb_tells w.granule r)
+
     skip : (acc ≡ r) ⊎ (any_at r (w ∷ ws) ≡ true) → w.granule < r → (acc ≡ r) ⊎ (any_at r ws ≡ true)
     skip (inl e) below = inl e
     skip (inr t) below = inr (rw (eq_no w.granule r (λ e. absurd (omega (arith, e, below)))) at t)
@@ -99,10 +100,10 @@ reduce_least : (ws : List TaggedWord) (from r : ℕ) → from ≤ r → any_at r
 reduce_least [] from r lo t none = absurd (cc)
 reduce_least (w ∷ ws) from r lo t none = ⊎_elim
     (λ (q : Le from w.granule).
-        let far = reaches_r from r w ws none q.1 in
-        rw q.0 (ap (λ x. Some x) (fold_least ws w.granule from r lo far (here w ws r t) (λ a f b. any_later a w ws (none a f b)))))
+    let far = reaches_r from r w ws none q.1 in
+    rw q.0 (ap (λ x. Some x) (fold_least ws w.granule from r lo far (here w ws r t) (λ a f b. any_later a w ws (none a f b)))))
     (λ (q : Gt from w.granule).
-        rw q.0 (reduce_least ws from r lo (rw (eq_no w.granule r (λ e. absurd (omega (arith, e, q.1, lo)))) at t) (λ a f b. any_later a w ws (none a f b))))
+    rw q.0 (reduce_least ws from r lo (rw (eq_no w.granule r (λ e. absurd (omega (arith, e, q.1, lo)))) at t) (λ a f b. any_later a w ws (none a f b))))
     (leb_tells from w.granule)
   where
     here : (w : TaggedWord) (ws : List TaggedWord) (r : ℕ) → any_at r (w ∷ ws) ≡ true → (w.granule ≡ r) ⊎ (any_at r ws ≡ true)
@@ -112,9 +113,9 @@ reduce_none : (ws : List TaggedWord) (from : ℕ) → ((a : ℕ) → from ≤ a 
 reduce_none [] from none = refl
 reduce_none (w ∷ ws) from none = ⊎_elim
     (λ (q : Le from w.granule).
-        let no = none w.granule q.1 in
-        let off = rw (eq_yes w.granule w.granule refl) at no in
-        absurd (cc))
+    let no = none w.granule q.1 in
+    let off = rw (eq_yes w.granule w.granule refl) at no in
+    absurd (cc))
     (λ (q : Gt from w.granule). rw q.0 (reduce_none ws from (λ a f. any_later a w ws (none a f))))
     (leb_tells from w.granule)
 
@@ -137,9 +138,9 @@ pub has_kept : (k g : ℕ) (xs : List ℕ) → k ≢ g → has k (without g xs) 
 has_kept k g [] ne = refl
 has_kept k g (x ∷ xs) ne = ⊎_elim
     (λ (same : Yes x g). rw same.0 (⊎_elim
-        (λ (q : Yes x k). absurd (ne (sym q.1 ∙ same.1)))
-        (λ (q : No x k). rw q.0 (has_kept k g xs ne))
-        (eqb_tells x k)))
+    (λ (q : Yes x k). absurd (ne (sym q.1 ∙ same.1)))
+    (λ (q : No x k). rw q.0 (has_kept k g xs ne))
+    (eqb_tells x k)))
     (λ (other : No x g). rw other.0 (ap (λ b. nat_eq x k || b) (has_kept k g xs ne)))
     (eqb_tells x g)
 
@@ -172,6 +173,7 @@ has_put k g s (x ∷ xs) h = ⊎_elim
     swap_or true true c = refl
     swap_or true false c = refl
     swap_or false b c = refl
+
     eq_sym : (a b : ℕ) → nat_eq a b ≡ nat_eq b a
     eq_sym a b = ⊎_elim
         (λ (q : Yes a b). q.0 ∙ sym (eq_yes b a (sym q.1)))

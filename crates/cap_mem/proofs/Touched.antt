@@ -1,9 +1,9 @@
 -- Which granules a store touches, and the words without them.
-use Rattle.std.proofs.Common.{◌≡◌, ℕ, suc, zero, ◌+◌, ◌-◌, ◌*◌, ◌/◌, ◌%◌, ◌<◌, ◌≤◌, Bool, true, false, not, ◌||◌, List, [], ◌∷◌, cond, refl, ap, sym, ◌∙◌, arith, nat_eq, nat_lt, ⊎_elim, min, max}
+use Rattle.std.proofs.Common.{◌≡◌, ℕ, suc, zero, ◌+◌, ◌-◌, ◌*◌, ◌/◌, ◌%◌, ◌<◌, ◌≤◌, Bool, true, false, not, ◌||◌, List, [], ◌∷◌, cond, refl, ap, sym, ◌∙◌, arith, nat_eq, ⊎_elim, min, max}
 use Rattle.std.specs.Prelude.{◌≢◌, filter, find, is_some}
 use Rattle.std.proofs.lemmas.Bool.Decides.{eqb_tells}
 use Rattle.cap_own.specs.Cap.{Cap}
-use Rattle.cap_mem.specs.Tagged.{TaggedMemory, TaggedWord, stands_at, is_tagged, is_touched, without_touched, without_granule}
+use Rattle.cap_mem.specs.Tagged.{TaggedWord, stands_at, is_touched, without_touched, without_granule}
 use Rattle.cap_mem.specs.Held.{words_of, without_range}
 use Rattle.cap_mem.specs.declared.memory.Memory.TheInside.{Inside}
 use Rattle.cap_mem.specs.MemoryFields.{memory_of, caps_of, notes_of, AreTables}
@@ -65,10 +65,10 @@ touched_same : (base at len first n x : ℕ) → base ≤ at → 0 < len → bas
 touched_same base at len first n x from some al ef en = ⊎_elim
     (λ (a : In x first). touched_no at len (base + 16 * x) (omega (arith, a.1, ef, from)) ∙ sym (range_out base first n x (λ lo. absurd (omega (arith, lo, a.1)))))
     (λ (b : Out x first). ⊎_elim
-        (λ (i : In x (first + n)). touched_yes at len (base + 16 * x) (omega (arith, i.1, en, from, some)) (omega (arith, b.1, ef, from)) some
-            ∙ sym (range_in base first n x b.1 i.1))
-        (λ (o : Out x (first + n)). touched_no at len (base + 16 * x) (omega (arith, o.1, en, from, some)) ∙ sym (range_out base first n x (λ lo. o.1)))
-        (lt_tells x (first + n)))
+    (λ (i : In x (first + n)). touched_yes at len (base + 16 * x) (omega (arith, i.1, en, from, some)) (omega (arith, b.1, ef, from)) some
+    ∙ sym (range_in base first n x b.1 i.1))
+    (λ (o : Out x (first + n)). touched_no at len (base + 16 * x) (omega (arith, o.1, en, from, some)) ∙ sym (range_out base first n x (λ lo. o.1)))
+    (lt_tells x (first + n)))
     (lt_tells x first)
 
 filter_words : (base size : ℕ) (caps : ℕ → Cap) (nt : ℕ → ℕ) (p q : ℕ → Bool) (xs : List ℕ) → ((x : ℕ) → p (base + 16 * x) ≡ q (base + 16 * x))
@@ -88,7 +88,7 @@ pub touched_words : (m : Inside) → AreTables m → (at len first n : ℕ) → 
 touched_words m i at len first n from some ef en =
     range_is m.base first n (memory_of m).words
     ∙ sym (filter_words m.base m.links.size (caps_of m) (notes_of m) (is_touched at len) (in_range m.base first n) m.links.chain
-        (λ x. touched_same m.base at len first n x from some i.aligned ef en))
+    (λ x. touched_same m.base at len first n x from some i.aligned ef en))
 
 -- a store of no bytes touches nothing
 pub untouched : (at : ℕ) (ws : List TaggedWord) → without_touched at 0 ws ≡ ws
@@ -120,9 +120,9 @@ granule_kept a g [] h = h
 granule_kept a g (w ∷ ws) h = ⊎_elim
     (λ (q : Yes w.granule a). rw q.0 refl)
     (λ (q : No w.granule a). rw q.0 (⊎_elim
-        (λ (k : Yes w.granule g). granule_kept a g ws (rw k.0 at h))
-        (λ (k : No w.granule g). granule_kept a g ws (rw (k.0, q.0) at h))
-        (eqb_tells w.granule g)))
+    (λ (k : Yes w.granule g). granule_kept a g ws (rw k.0 at h))
+    (λ (k : No w.granule g). granule_kept a g ws (rw (k.0, q.0) at h))
+    (eqb_tells w.granule g)))
     (eqb_tells w.granule a)
 
 -- 16 bytes at a granule touch no other granule

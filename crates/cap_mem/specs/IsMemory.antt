@@ -1,5 +1,5 @@
 -- What holds of every tagged memory.
-use Rattle.std.specs.Prelude.{◌≡◌, ◌≢◌, ℕ, ◌+◌, ◌-◌, ◌%◌, ◌<◌, ◌≤◌, All, AllPairs, length}
+use Rattle.std.specs.Prelude.{◌≡◌, ◌≢◌, ◌+◌, ◌-◌, ◌%◌, ◌<◌, ◌≤◌, All, AllPairs, length}
 use Rattle.cap_own.specs.Cap.{Mapping, IsGrant, word_of_cap}
 use Rattle.cap_mem.specs.Tagged.{TaggedMemory, TaggedWord, word_in}
 

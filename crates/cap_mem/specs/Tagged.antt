@@ -1,5 +1,5 @@
 -- Tagged memory, as CHERI has it: bytes, and a tag for each granule of 16 bytes.
-use Rattle.std.specs.Prelude.{◌≡◌, ℕ, ◌+◌, ◌-◌, ◌<◌, ◌≤◌, Bool, true, false, not, ◌==◌, nat_lt, nat_le, min, List, [], ◌∷◌, ◌++◌, length, map, filter, find, take, drop, flat_map, replicate, Option, Some, None, is_some, if◌then◌else◌}
+use Rattle.std.specs.Prelude.{◌≡◌, ℕ, ◌+◌, ◌-◌, ◌%◌, ◌<◌, ◌≤◌, Bool, true, false, not, ◌==◌, nat_lt, nat_le, min, List, [], ◌∷◌, ◌++◌, length, map, filter, find, take, drop, flat_map, replicate, Option, Some, None, is_some, if◌then◌else◌}
 use Rattle.std.specs.List.{reduce, replace_range}
 use Rattle.cap_base.specs.Field.{number_at, number_bytes}
 use Rattle.cap_base.specs.Lists.{share_byte, numbers_between}
@@ -128,3 +128,9 @@ bytes_at memory at len = take len (drop (at - memory.base) memory.bytes)
 pub record IsInside (memory : TaggedMemory) (at len : ℕ) : Type 0 where
   pub from : memory.base ≤ at
   pub to : at + len ≤ memory.base + length memory.bytes
+
+-- the address is that of a tagged granule
+pub record IsTaggedGranule (memory : TaggedMemory) (granule : ℕ) : Type 0 where
+  pub tagged : is_tagged memory granule ≡ true
+  pub aligned : granule % 16 ≡ 0
+  pub inside : IsInside memory granule 16

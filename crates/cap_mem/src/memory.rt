@@ -1,7 +1,7 @@
 // Tagged memory: bytes, and for each granule a bit, an owner, a note and its links.
-ghost use Rattle.std.specs.Prelude.{◌≡◌, ℕ, ◌+◌, ◌-◌, ◌*◌, ◌/◌, ◌%◌, ◌^◌, ◌<◌, ◌≤◌, length, IfOk, MatchOption, true, false, option_map};
+ghost use Rattle.std.specs.Prelude.{◌≡◌, ℕ, ◌+◌, ◌-◌, ◌*◌, ◌/◌, ◌%◌, ◌^◌, ◌<◌, ◌≤◌, length, IfOk, IfSome, MatchOption, true, false, option_map};
 ghost use Rattle.std.specs.List.{replace_range};
-ghost use Rattle.cap_mem.specs.Tagged.{fresh_memory, is_tagged, without_granule, entered, bytes_at, bytes_with, with_cap, with_bytes, without_touched, is_touched, list_of, first_granule, tagged_word, next_granule, first_tagged, word_in, word_bytes, IsInside, IsFirstTagged, NoneTagged};
+ghost use Rattle.cap_mem.specs.Tagged.{fresh_memory, is_tagged, without_granule, entered, bytes_at, bytes_with, with_cap, with_bytes, without_touched, is_touched, list_of, first_granule, tagged_word, next_granule, first_tagged, word_in, word_bytes, IsInside, IsTaggedGranule, IsFirstTagged, NoneTagged};
 ghost use Rattle.cap_mem.specs.Held.{HasStored, without_range, granule_of};
 ghost use Rattle.cap_mem.specs.IsMemory.{IsMemory};
 
@@ -169,6 +169,7 @@ impl Memory {
     pub fn tagged(&self, from: u64) -> Option<u64>
         ensures first { result ≡ first_tagged self.now from }
         ensures least { MatchOption result (NoneTagged self.now from) (λ g. IsFirstTagged self.now from g) }
+        ensures granule { IfSome result (λ g. IsTaggedGranule self.now g) }
     {
         let start = first_granule_from(self.base, from);
         match next_bit(&self.tags, start) {
@@ -196,7 +197,8 @@ impl Memory {
 
     /// The granule of an owner that was stored first.
     pub fn first_of(&self, owner: u32) -> Option<u64>
-        ensures { result ≡ first_granule (list_of self.now owner) }
+        ensures value { result ≡ first_granule (list_of self.now owner) }
+        ensures granule { IfSome result (λ g. IsTaggedGranule self.now g) }
     {
         let size = (self.bytes.len() / 16) as u32;
         if owner >= 256 {
@@ -208,7 +210,8 @@ impl Memory {
     /// The granule that follows a tagged one in the list of its owner.
     pub fn next_of(&self, at: u64) -> Option<u64>
         requires { is_tagged self.now at ≡ true }
-        ensures { result ≡ next_granule self.now at }
+        ensures value { result ≡ next_granule self.now at }
+        ensures granule { IfSome result (λ g. IsTaggedGranule self.now g) }
     {
         let g = ((at - self.base) / 16) as u32;
         self.granule_at(self.links.after(g))

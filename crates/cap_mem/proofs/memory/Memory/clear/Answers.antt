@@ -14,7 +14,7 @@ returns-then-len-gt0 c =
     let first : ℕ = (c.args.at - m.base) / 16 in
     let n : ℕ = (c.args.at - m.base + (c.args.len - 1)) / 16 + 1 - (c.args.at - m.base) / 16 in
     let e = touched_words m c.self.invariant c.args.at c.args.len ((c.args.at - m.base) / 16) ((c.args.at - m.base + (c.args.len - 1)) / 16 + 1 - (c.args.at - m.base) / 16)
-        (omega (arith, base, c.requires.from)) c.if-len-gt0.true (omega arith) (omega arith) in
+    (omega (arith, base, c.requires.from)) c.if-len-gt0.true (omega arith) (omega arith) in
     let words = subst (λ (v : TaggedMemory). without_range v.base ((c.args.at - m.base) / 16) ((c.args.at - m.base + (c.args.len - 1)) / 16 + 1 - (c.args.at - m.base) / 16) v.words ≡ without_touched c.args.at c.args.len v.words) c.self.view_is e in
     c.clear_range.ensures ∙ ap (with_words c.args.self.now) words
 

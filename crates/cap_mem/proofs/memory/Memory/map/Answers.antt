@@ -3,7 +3,6 @@ use Rattle.std.specs.List.{range_with_len}
 use Rattle.std.proofs.lemmas.List.{length-replicate}
 use Rattle.cap_mem.specs.Tagged.{TaggedMemory, TaggedWord}
 use Rattle.cap_mem.proofs.Marks.{has_range, notin_range, apart_range}
-use Rattle.cap_mem.specs.MemoryFields.{owners_of, notes_of, caps_of}
 use Rattle.cap_mem.specs.Held.{cap_in}
 use Rattle.cap_mem.proofs.Granules.{words_range, owned_range}
 use Rattle.cap_mem.proofs.Tags.{has_low, no_bits, zero_at}
@@ -46,7 +45,7 @@ pub returns : goal.returns
 returns c =
     let bytes : c.in_ok-bytes.bytes.items ≡ replicate c.len-len.result 0 = c.in_ok-bytes.ensures.items_if_clones_equal (λ y e. e) in
     rw c.in_ok-links.ensures (ap (λ ws. memory_from c.base-base.result c.in_ok-bytes.bytes.items ws)
-        (words_range c.base-base.result (c.len-len.result / 16) (λ g. cap_in c.in_ok-bytes.bytes.items (16 * g) (slice_index c.in_ok-owners.owners.items g)) (λ g. slice_index c.in_ok-notes.notes.items g) (c.len-len.result / 16) 257 (omega arith))
-      ∙ ap (λ bs. memory_from c.base-base.result bs []) bytes
-      ∙ ap (λ b. memory_from b (replicate c.len-len.result 0) []) c.base-base.ensures.value
-      ∙ ap (λ n. memory_from c.args.root.now.base (replicate n 0) []) c.len-len.ensures.value)
+    (words_range c.base-base.result (c.len-len.result / 16) (λ g. cap_in c.in_ok-bytes.bytes.items (16 * g) (slice_index c.in_ok-owners.owners.items g)) (λ g. slice_index c.in_ok-notes.notes.items g) (c.len-len.result / 16) 257 (omega arith))
+    ∙ ap (λ bs. memory_from c.base-base.result bs []) bytes
+    ∙ ap (λ b. memory_from b (replicate c.len-len.result 0) []) c.base-base.ensures.value
+    ∙ ap (λ n. memory_from c.args.root.now.base (replicate n 0) []) c.len-len.ensures.value)

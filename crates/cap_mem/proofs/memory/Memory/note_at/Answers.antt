@@ -24,7 +24,7 @@ returns-then-has_bit c =
     let o = read m.owners.items ((c.args.at - m.base) / 16) c.index.result.now (omega (arith, below, i.owners_len)) c.index.ensures in
     let n = read m.notes.items ((c.args.at - m.base) / 16) c.index-then-has_bit.result.now (omega (arith, below, i.notes_len)) c.index-then-has_bit.ensures in
     rw (o, n) (sym (ap (λ (v : TaggedMemory). option_map note_of (tagged_word v c.args.at)) (sym c.self.view_is)
-        ∙ ap (λ a. option_map note_of (tagged_word (memory_of m) a)) at ∙ ap (option_map note_of) w))
+    ∙ ap (λ a. option_map note_of (tagged_word (memory_of m) a)) at ∙ ap (option_map note_of) w))
 
 pub returns-else-has_bit : goal.returns-else-has_bit
 returns-else-has_bit c =
@@ -37,4 +37,4 @@ returns-else-has_bit c =
     let bit : bit_in m.tags.items ((c.args.at - m.base) / 16) ≡ false = ap (λ (ws : List ℕ). bit_in ws ((c.args.at - m.base) / 16)) (sym c.deref.ensures.value) ∙ sym c.has_bit.ensures ∙ c.if-has_bit.false in
     let w = word_at m i ((c.args.at - m.base) / 16) false below bit in
     sym (ap (λ (v : TaggedMemory). option_map note_of (tagged_word v c.args.at)) (sym c.self.view_is)
-        ∙ ap (λ a. option_map note_of (tagged_word (memory_of m) a)) at ∙ ap (option_map note_of) w)
+    ∙ ap (λ a. option_map note_of (tagged_word (memory_of m) a)) at ∙ ap (option_map note_of) w)

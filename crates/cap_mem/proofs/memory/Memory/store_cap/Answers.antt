@@ -1,9 +1,8 @@
-use Rattle.std.proofs.Common.{◌≡◌, ℕ, ◌+◌, ◌-◌, ◌*◌, ◌/◌, ◌≤◌, ◌<◌, ◌^◌, length, ap, sym, ◌∙◌, subst, arith, false, List}
+use Rattle.std.proofs.Common.{◌≡◌, ℕ, ◌+◌, ◌-◌, ◌*◌, ◌/◌, ◌<◌, ◌^◌, length, ap, sym, ◌∙◌, subst, arith, false, List}
 use Rattle.std.specs.Prelude.{find, is_some}
 use Rattle.std.specs.List.{replace_range}
 use Rattle.cap_own.specs.Cap.{Cap}
 use Rattle.cap_mem.specs.Held.{HasStored}
-use Rattle.cap_mem.specs.MemoryFields.{memory_of}
 use Rattle.cap_mem.specs.Tagged.{TaggedMemory, bytes_with, entered, is_touched, stands_at, without_granule, word_bytes}
 use Rattle.cap_mem.proofs.Stored.{length_word_bytes, stored_word}
 use Rattle.cap_mem.proofs.Touched.{alone_gone, granule_gone}
@@ -32,7 +31,7 @@ tag-requires-clause-stored c =
     let small_address : c.word.result.address < 2 ^ 64 = omega arith in
     let small_meta : c.word.result.meta < 2 ^ 64 = omega arith in
     let stored = stored_word c.args.self.now.bytes c.bytes_of_word.result (c.args.at - c.args.self.now.base) (length c.bytes_of_word.result) c.word.result c.args.cap.cap
-        c.bytes_of_word.ensures size (omega (arith, c.requires.inside.to, c.requires.inside.from)) small_address small_meta c.word.ensures.word c.word.ensures.fields in
+    c.bytes_of_word.ensures size (omega (arith, c.requires.inside.to, c.requires.inside.from)) small_address small_meta c.word.ensures.word c.word.ensures.fields in
     rw (c.put.ensures, c.untag.ensures) (subst (λ (o : ℕ). HasStored (replace_range c.args.self.now.bytes (c.args.at - c.args.self.now.base) (c.args.at - c.args.self.now.base + length c.bytes_of_word.result) c.bytes_of_word.result) o c.args.cap.cap) at stored)
 
 -- the memory after the three steps, where the granule is x
@@ -49,5 +48,5 @@ returns c =
     let base : m.base ≡ c.args.self.now.base = ap (λ (v : TaggedMemory). v.base) c.self.view_is in
     let at : c.args.self.now.base + 16 * ((c.args.at - m.base) / 16) ≡ c.args.at = omega (arith, c.self.invariant.aligned, base, c.requires.aligned, c.requires.inside.from) in
     rw (c.tag.ensures, c.put.ensures, c.untag.ensures)
-        (ap (λ x. after c.args.self.now c.args.at x c.bytes_of_word.result c.args.cap.cap c.args.note) at
-        ∙ ap (λ bs. after c.args.self.now c.args.at c.args.at bs c.args.cap.cap c.args.note) (c.bytes_of_word.ensures ∙ ap word_bytes c.word.ensures.word))
+    (ap (λ x. after c.args.self.now c.args.at x c.bytes_of_word.result c.args.cap.cap c.args.note) at
+    ∙ ap (λ bs. after c.args.self.now c.args.at c.args.at bs c.args.cap.cap c.args.note) (c.bytes_of_word.ensures ∙ ap word_bytes c.word.ensures.word))

@@ -28,7 +28,7 @@ invariant_of-self c =
     let below : c.args.g < m.links.size = omega (arith, i.bytes_len, ap (λ (v : TaggedMemory). length v.bytes) c.self.view_is, c.requires.below) in
     let low : c.owner-owner.result < 256 = omega (arith, own, c.requires.owner) in
     let out : has c.args.g m.links.chain ≡ false =
-        sym (tagged_is m c.args.g below) ∙ ap (λ (v : TaggedMemory). is_tagged v (v.base + 16 * c.args.g)) c.self.view_is ∙ c.requires.out in
+    sym (tagged_is m c.args.g below) ∙ ap (λ (v : TaggedMemory). is_tagged v (v.base + 16 * c.args.g)) c.self.view_is ∙ c.requires.out in
     let apart : NotIn c.args.g (m.links.size ∷ i.rest) = notin_has c.args.g (m.links.size ∷ i.rest) (ap (λ cs. has c.args.g cs) (sym i.starts) ∙ out) in
     let stands : has (m.links.size + c.owner-owner.result + 1) m.links.chain ≡ true = ap (λ cs. has (m.links.size + c.owner-owner.result + 1) cs) i.starts ∙ has_tail (m.links.size + c.owner-owner.result + 1) m.links.size i.rest (i.marks c.owner-owner.result low) in
     let stored : HasStored m.bytes.items (16 * c.args.g) c.args.cap.now.cap = subst (λ (v : TaggedMemory). HasStored v.bytes (16 * c.args.g) c.args.cap.now.cap) (sym c.self.view_is) c.requires.stored in
@@ -49,9 +49,9 @@ invariant_of-self c =
       marks = marks_before m.links.size c.args.g (m.links.size + c.owner-owner.result + 1) i.rest below i.marks;
       owners_low = low_set m.owners.items c.args.g c.owner-owner.result (omega (arith, i.owners_len, below)) low i.owners_low;
       owned = owned_before m.links.size c.owner-owner.result 0 (owners_of m) (λ g. slice_index (set m.owners.items c.args.g c.owner-owner.result) g) c.args.g i.rest i.owned (omega arith) apart.1 below
-        (λ k ne. get_or-set_other m.owners.items c.args.g k c.owner-owner.result 0 ne) (get_or-set_same m.owners.items c.args.g c.owner-owner.result 0 (omega (arith, i.owners_len, below)));
+          (λ k ne. get_or-set_other m.owners.items c.args.g k c.owner-owner.result 0 ne) (get_or-set_same m.owners.items c.args.g c.owner-owner.result 0 (omega (arith, i.owners_len, below)));
       caps = caps_before m.bytes.items (owners_of m) (λ g. slice_index (set m.owners.items c.args.g c.owner-owner.result) g) m.links.size c.args.g (m.links.size + c.owner-owner.result + 1) m.links.chain c.args.cap.now stands
-        (λ k ne. get_or-set_other m.owners.items c.args.g k c.owner-owner.result 0 ne) (get_or-set_same m.owners.items c.args.g c.owner-owner.result 0 (omega (arith, i.owners_len, below)) ∙ own) stored c.owner-owner.ensures.sound i.caps;
+          (λ k ne. get_or-set_other m.owners.items c.args.g k c.owner-owner.result 0 ne) (get_or-set_same m.owners.items c.args.g c.owner-owner.result 0 (omega (arith, i.owners_len, below)) ∙ own) stored c.owner-owner.ensures.sound i.caps;
     })
 
 abbrev with_words : ℕ → List ℕ → List TaggedWord → TaggedMemory
@@ -64,12 +64,12 @@ returns c =
     let own : c.owner-owner.result ≡ c.args.cap.now.cap.owner = c.owner-owner.ensures.value in
     let below : c.args.g < m.links.size = omega (arith, i.bytes_len, ap (λ (v : TaggedMemory). length v.bytes) c.self.view_is, c.requires.below) in
     let out : has c.args.g m.links.chain ≡ false =
-        sym (tagged_is m c.args.g below) ∙ ap (λ (v : TaggedMemory). is_tagged v (v.base + 16 * c.args.g)) c.self.view_is ∙ c.requires.out in
+    sym (tagged_is m c.args.g below) ∙ ap (λ (v : TaggedMemory). is_tagged v (v.base + 16 * c.args.g)) c.self.view_is ∙ c.requires.out in
     let stored : HasStored m.bytes.items (16 * c.args.g) c.args.cap.now.cap = subst (λ (v : TaggedMemory). HasStored v.bytes (16 * c.args.g) c.args.cap.now.cap) (sym c.self.view_is) c.requires.stored in
     let owner_here : slice_index (set m.owners.items c.args.g c.args.cap.now.cap.owner) c.args.g ≡ c.args.cap.now.cap.owner =
-        get_or-set_same m.owners.items c.args.g c.args.cap.now.cap.owner 0 (omega (arith, i.owners_len, below)) in
+    get_or-set_same m.owners.items c.args.g c.args.cap.now.cap.owner 0 (omega (arith, i.owners_len, below)) in
     rw (← c.self.view_is, c.append.ensures, own) (ap (with_words m.base m.bytes.items) (words_put m.base m.links.size c.args.cap.now.cap
-        (caps_of m) (λ g. cap_in m.bytes.items (16 * g) (slice_index (set m.owners.items c.args.g c.args.cap.now.cap.owner) g)) (notes_of m) (λ g. slice_index (set m.notes.items c.args.g c.args.note) g)
-        c.args.g c.args.note m.links.chain i.rest i.starts i.owned out (i.marks c.args.cap.now.cap.owner c.requires.owner) below
-        (λ k ne. ap (cap_in m.bytes.items (16 * k)) (get_or-set_other m.owners.items c.args.g k c.args.cap.now.cap.owner 0 ne)) (λ k ne. get_or-set_other m.notes.items c.args.g k c.args.note 0 ne)
-        (ap (cap_in m.bytes.items (16 * c.args.g)) owner_here ∙ stored.decodes) (get_or-set_same m.notes.items c.args.g c.args.note 0 (omega (arith, i.notes_len, below)))))
+    (caps_of m) (λ g. cap_in m.bytes.items (16 * g) (slice_index (set m.owners.items c.args.g c.args.cap.now.cap.owner) g)) (notes_of m) (λ g. slice_index (set m.notes.items c.args.g c.args.note) g)
+    c.args.g c.args.note m.links.chain i.rest i.starts i.owned out (i.marks c.args.cap.now.cap.owner c.requires.owner) below
+    (λ k ne. ap (cap_in m.bytes.items (16 * k)) (get_or-set_other m.owners.items c.args.g k c.args.cap.now.cap.owner 0 ne)) (λ k ne. get_or-set_other m.notes.items c.args.g k c.args.note 0 ne)
+    (ap (cap_in m.bytes.items (16 * c.args.g)) owner_here ∙ stored.decodes) (get_or-set_same m.notes.items c.args.g c.args.note 0 (omega (arith, i.notes_len, below)))))
