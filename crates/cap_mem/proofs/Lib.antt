@@ -10,3 +10,4 @@ pub mod Entered
 pub mod Following
 pub mod Sound
 pub mod Walks
+pub mod ByOwner

@@ -48,6 +48,7 @@ words_of base size caps notes (x ∷ xs) =
 abbrev pub AreCaps : List ℕ → (ℕ → ℕ) → ℕ → List ℕ → Type 0
 AreCaps bytes owners size chain = (g : ℕ) → g < size → has g chain ≡ true → IsCapAt bytes (16 * g) (owners g)
 
+-- one of two facts, by a test
 abbrev pub Either : Bool → Type 0 → Type 0 → Type 0
 Either true a b = a
 Either false a b = b

@@ -3,6 +3,7 @@ pub mod Chain
 pub mod Chained
 pub mod ChainFields
 pub mod Tagged
+pub mod Laws
 pub mod IsMemory
 pub mod Ascending
 pub mod Held

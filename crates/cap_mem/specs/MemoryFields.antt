@@ -7,6 +7,7 @@ use Rattle.cap_mem.specs.Held.{cap_in, words_of, Owned, AreCaps}
 use Rattle.cap_mem.specs.Bit.{bit_in}
 use Rattle.cap_mem.specs.Chain.{has, IsApart}
 
+-- the owner and the note of a granule, where it is tagged
 abbrev pub owners_of : Inside → ℕ → ℕ
 owners_of m g = slice_index m.owners.items g
 
@@ -17,6 +18,7 @@ notes_of m g = slice_index m.notes.items g
 abbrev pub caps_of : Inside → ℕ → Cap
 caps_of m g = cap_in m.bytes.items (16 * g) (owners_of m g)
 
+-- the value of the tables: the words in the order of the chain
 abbrev pub memory_of : Inside → TaggedMemory
 memory_of m = record {
   base = m.base;

@@ -19,6 +19,7 @@ pub record TaggedMemory : Type 0 where
   pub bytes : List ℕ
   pub words : List TaggedWord
 
+-- the word's capability is one of the owner's
 abbrev pub is_of : ℕ → TaggedWord → Bool
 is_of owner w = w.cap.owner == owner
 
@@ -30,6 +31,7 @@ list_of memory owner = filter (is_of owner) memory.words
 abbrev pub by_owner : List TaggedWord → List TaggedWord
 by_owner words = flat_map (λ owner. filter (is_of owner) words) (numbers_between 0 256)
 
+-- the word stands at the granule
 abbrev pub stands_at : ℕ → TaggedWord → Bool
 stands_at granule w = w.granule == granule
 
@@ -37,6 +39,7 @@ stands_at granule w = w.granule == granule
 abbrev pub tagged_word : TaggedMemory → ℕ → Option TaggedWord
 tagged_word memory granule = find (stands_at granule) memory.words
 
+-- whether a word stands there
 abbrev pub is_tagged : TaggedMemory → ℕ → Bool
 is_tagged memory granule = is_some (tagged_word memory granule)
 
@@ -50,6 +53,7 @@ pub record IsFirstTagged (memory : TaggedMemory) (from granule : ℕ) : Type 0 w
   pub order : from ≤ granule
   pub least : (a : ℕ) → from ≤ a → a < granule → is_tagged memory a ≡ false
 
+-- no granule from an address on is tagged
 abbrev pub NoneTagged : TaggedMemory → ℕ → Type 0
 NoneTagged memory from = (a : ℕ) → from ≤ a → is_tagged memory a ≡ false
 
@@ -69,9 +73,11 @@ bytes_with memory at bytes =
 abbrev pub is_touched : ℕ → ℕ → ℕ → Bool
 is_touched at len granule = share_byte (at, len) (granule, 16)
 
+-- the words whose granules the store leaves alone
 abbrev pub without_touched : ℕ → ℕ → List TaggedWord → List TaggedWord
 without_touched at len words = filter (λ w. not (is_touched at len w.granule)) words
 
+-- the words that stand elsewhere
 abbrev pub without_granule : ℕ → List TaggedWord → List TaggedWord
 without_granule granule words = filter (λ w. not (w.granule == granule)) words
 
@@ -96,13 +102,15 @@ with_cap memory at cap note = record memory {
   words = entered (without_granule at memory.words) (record { granule = at; cap = cap; note = note });
 }
 
--- memory of zeros without a tag
+-- bytes of zero
 abbrev pub zeros : ℕ → List ℕ
 zeros len = replicate len 0
 
+-- new memory from a base on: zeros, without a tag
 abbrev pub fresh_memory : ℕ → ℕ → TaggedMemory
 fresh_memory base len = record { base = base; bytes = zeros len; words = [] }
 
+-- the granule of the first word
 abbrev pub first_granule : List TaggedWord → Option ℕ
 first_granule [] = None
 first_granule (w ∷ words) = Some w.granule
@@ -112,11 +120,12 @@ abbrev pub granule_after : ℕ → List TaggedWord → Option ℕ
 granule_after granule [] = None
 granule_after granule (w ∷ words) = if w.granule == granule then first_granule words else granule_after granule words
 
--- the granule that follows this one in the list of its owner
+-- the granule that follows in the list of the owner of the word that was found
 abbrev pub next_in : TaggedMemory → ℕ → Option TaggedWord → Option ℕ
 next_in memory granule None = None
 next_in memory granule (Some w) = granule_after granule (list_of memory w.cap.owner)
 
+-- the granule that follows this one in the list of its owner
 abbrev pub next_granule : TaggedMemory → ℕ → Option ℕ
 next_granule memory granule = next_in memory granule (tagged_word memory granule)
 

@@ -10,14 +10,17 @@
 //!   256 owners. So a granule leaves or enters it in a few writes, wherever it stands, with no list ends to mend.
 //!   `bits` are the tags, `links` the chain, `memory` the rest: it names no link.
 //! - `map` makes all tables; no other call takes memory, and each store takes constant time for each granule.
+//! - `order_laws` says what the lists are after a run of stores.
 //!
 //! It derives no capability (`cap_own` does), and knows neither objects nor relocations: an owner and a note are numbers.
 #![tactic(auto)]
 
 mod bits;
+mod laws;
 mod links;
 mod memory;
 
+pub use laws::order_laws;
 pub use memory::{Memory, Note};
 
 #[cfg(test)]

@@ -59,6 +59,16 @@ fn first_granule_from(base: u64, from: u64) -> u64
     (from - base - 1) / 16 + 1
 }
 
+/// The first granule that has one of these bytes, and the one behind the last.
+fn touched_granules(from: u64, len: u64) -> (u64, u64)
+    requires some { 0 < len }
+    requires end { from + len < 2 ^ 63 }
+    ensures first { result.0 ≡ from / 16 }
+    ensures end { result.1 ≡ (from + (len - 1)) / 16 + 1 }
+{
+    (from / 16, (from + (len - 1)) / 16 + 1)
+}
+
 /// The 16 bytes of a word.
 fn bytes_of_word(word: Word) -> [u8; 16]
     ensures { result ≡ word_bytes word }
@@ -262,8 +272,8 @@ impl Memory {
         ensures { self.new ≡ record self.old { words = without_touched at len self.old.words } }
     {
         if len > 0 {
-            let from = at - self.base;
-            self.clear_range(from / 16, (from + (len as u64 - 1)) / 16 + 1);
+            let touched = touched_granules(at - self.base, len as u64);
+            self.clear_range(touched.0, touched.1);
         }
     }
 
