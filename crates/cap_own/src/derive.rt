@@ -1,7 +1,7 @@
 ghost use Rattle.std.specs.Prelude.{◌<◌, if◌then◌else◌, ◌≡◌, ◌+◌, ◌^◌, ◌≤◌, true, false, IfOk, bit_and};
-ghost use Rattle.cap_conc.specs.Computed.{fields_of};
+ghost use Rattle.cap_conc.specs.Computed.{fields_of, is_exact};
 ghost use Rattle.cap_own.specs.Interval.{interval};
-ghost use Rattle.cap_own.specs.Cap.{IsWithin, IsSubset, IsGrant, StandsFor, word_of_cap, fields_of_cap};
+ghost use Rattle.cap_own.specs.Cap.{IsWithin, IsSubset, IsGrant, StandsFor, word_of_cap, fields_of_cap, narrowed_to};
 ghost use Rattle.cap_own.specs.Narrowing.{Narrows};
 
 use crate::perms::Perms;
@@ -137,7 +137,20 @@ impl<'r> Seg<'r> {
         if !exact(base, len) {
             return Err(Inexact { base, len });
         }
-        Ok(Derived {
+        Ok(self.derived(base, len, perms))
+    }
+
+    /// The capability, where its bounds are exact.
+    fn derived(&self, base: u64, len: u64, perms: Perms) -> Derived<'r>
+        requires from { self.now.base ≤ base }
+        requires to { base + len ≤ self.now.base + self.now.len }
+        requires fewer { IsSubset perms.0 self.now.perms }
+        requires code { self.now.flag ≡ true → perms.0 ≡ self.now.perms }
+        requires exact { is_exact base len ≡ true }
+        ensures value { result ≡ narrowed_to self.now base len perms.0 }
+        ensures sound { IsGrant result }
+    {
+        Derived {
             root: self.root,
             base,
             len,
@@ -145,7 +158,7 @@ impl<'r> Seg<'r> {
             perms,
             flag: self.flag,
             sealed: false,
-        })
+        }
     }
 }
 

@@ -1,5 +1,9 @@
+ghost use Rattle.std.specs.Prelude.{◌+◌, ◌≤◌};
+ghost use Rattle.cap_own.specs.Cap.{IsWithin, IsSubset};
+
 use super::*;
-use cap_conc::{Fields, Word, decode};
+use cap_conc::Word;
+use std::process::Abort;
 
 #[test]
 fn a_space_carves_and_takes_back(rt: HostRuntime) {
@@ -18,70 +22,55 @@ fn a_space_carves_and_takes_back(rt: HostRuntime) {
     space.end();
 }
 
+/// The word of the whole interval as data, with the cursor there.
+fn expect_data_word(rt: &impl Abort, root: &Root, base: u64, len: u64, perms: Perms, word: Word)
+    requires within { IsWithin root.now base len }
+    requires rights { IsSubset perms.0 0x7D }
+    requires from_base { base ≤ word.address }
+    requires to_top { word.address ≤ base + len }
+{
+    let cap = root
+        .data(base, len, perms)
+        .narrow(base, len, perms)
+        .expect(rt, "the bounds are exact");
+    assert_eq!(rt; cap.owner(), root.owner());
+    assert_eq!(rt; cap.at(word.address).word(), word);
+}
+
+/// The word of an entry into the whole interval as code.
+fn expect_entry_word(rt: &impl Abort, root: &Root, base: u64, len: u64, word: Word)
+    requires within { IsWithin root.now base len }
+    requires from_base { base ≤ word.address }
+    requires to_top { word.address ≤ base + len }
+{
+    let cap = root
+        .code(base, len)
+        .narrow(base, len, Perms::CODE)
+        .expect(rt, "the bounds are exact");
+    assert_eq!(rt; cap.at(word.address).seal_entry().word(), word);
+}
+
 #[test]
 fn derived_words_are_the_known_ones(rt: HostRuntime) {
     let mut space = Space::new(0x4000_0000, 0x4400_0000);
     assert!(rt; 4096u64.is_power_of_two());
     let (pad, body) = space.carve(4096, 0x4000).expect(&rt, "there is room");
     let root = Root::new(body, 7);
-    let data = root
-        .data(0x4000_3000, 32, Perms::DATA)
-        .narrow(0x4000_3000, 32, Perms::DATA)
-        .expect(&rt, "a short length is exact");
-    assert_eq!(rt; data.owner(), 7);
-    let word = data.at(0x4000_3020).word();
-    assert_eq!(rt;
-        word,
-        Word {
-            address: 0x4000_3020,
-            meta: 0x007D_0000_0409_B004
-        }
-    );
-    let code = root
-        .code(0x4000_0000, 0x2000)
-        .narrow(0x4000_0000, 0x2000, Perms::CODE)
-        .expect(&rt, "the code range is exact");
-    let word = code.at(0x4000_1004).seal_entry().word();
-    assert_eq!(rt;
-        word,
-        Word {
-            address: 0x4000_1004,
-            meta: 0x0017_2000_0801_8005
-        }
-    );
-    let all = root.data(root.base(), root.len(), Perms::DATA);
-    let constant = all
-        .narrow(0x4000_0100, 16, Perms::READ)
-        .expect(&rt, "a short length is exact");
-    let word = constant.word();
-    assert_eq!(rt;
-        word,
-        Word {
-            address: 0x4000_0100,
-            meta: 0x0015_0000_0445_8104
-        }
-    );
-    assert_eq!(rt;
-        decode(word),
-        Fields {
-            base: 0x4000_0100,
-            top: 0x4000_0110,
-            cursor: 0x4000_0100,
-            perms: 0x15,
-            flag: false,
-            otype: 262_143,
-        }
-    );
-    match all.narrow(0x4000_2004, 4096, Perms::DATA) {
-        Ok(cap) => assert!(rt; cap.owner() == 8, "inexact bounds were accepted"),
-        Err(inexact) => assert_eq!(rt;
-            inexact,
-            Inexact {
-                base: 0x4000_2004,
-                len: 4096
-            }
-        ),
-    }
+    let word = Word {
+        address: 0x4000_3020,
+        meta: 0x007D_0000_0409_B004,
+    };
+    expect_data_word(&rt, &root, 0x4000_3000, 32, Perms::DATA, word);
+    let word = Word {
+        address: 0x4000_0100,
+        meta: 0x0015_0000_0445_8104,
+    };
+    expect_data_word(&rt, &root, 0x4000_0100, 16, Perms::READ, word);
+    let word = Word {
+        address: 0x4000_1004,
+        meta: 0x0017_2000_0801_8005,
+    };
+    expect_entry_word(&rt, &root, 0x4000_0000, 0x2000, word);
     space.give_back(pad.join(root.into_span()));
     space.end();
 }
