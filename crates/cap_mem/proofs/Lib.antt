@@ -1,0 +1,13 @@
+pub mod Chains
+pub mod Tables
+pub mod BitWords
+pub mod Marks
+pub mod Granules
+pub mod Tags
+pub mod Stored
+pub mod Touched
+pub mod Entered
+pub mod Following
+pub mod Sound
+pub mod Walks
+pub mod ByOwner

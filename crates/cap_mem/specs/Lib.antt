@@ -1,0 +1,10 @@
+pub mod Bit
+pub mod Chain
+pub mod Chained
+pub mod ChainFields
+pub mod Tagged
+pub mod Laws
+pub mod IsMemory
+pub mod Ascending
+pub mod Held
+pub mod MemoryFields
