@@ -24,3 +24,6 @@ mod tags;
 pub use header::Version;
 pub use image::{Image, read};
 pub use reporting::report;
+
+#[cfg(test)]
+mod tests;
