@@ -1,5 +1,5 @@
 -- Loops that take a step, which may refuse, a number of times.
-use Rattle.std.proofs.Common.{◌≡◌, ℕ, zero, suc, ◌+◌, ◌-◌, ◌≤◌, ◌<◌, Result, Ok, Err, refl, sym, ap, ◌∙◌, arith}
+use Rattle.std.proofs.Common.{◌≡◌, ℕ, zero, suc, ◌+◌, ◌-◌, ◌≤◌, ◌<◌, Result, Ok, Err, sym, ap, ◌∙◌, arith}
 use Rattle.cap_base.specs.declared.refusal.Fault.{Fault}
 use Rattle.cap_base.specs.declared.refusal.Stop.{Stop}
 use Rattle.cap_base.specs.declared.refusal.Stop.TheVariants as stops

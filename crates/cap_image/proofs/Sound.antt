@@ -4,7 +4,6 @@ use Rattle.std.proofs.Common.{◌≡◌, ℕ, ◌+◌, ◌≤◌, List, [], ◌�
 use Rattle.std.proofs.lemmas.List.{length-map}
 use Rattle.std.proofs.lemmas.List.Elements.{All-map}
 use Rattle.cap_image.specs.declared.header.Version.{Version}
-use Rattle.cap_image.specs.declared.records.ObjectRecord.{ObjectRecord}
 use Rattle.cap_image.specs.declared.bodies.Body.{Body}
 use Rattle.cap_image.specs.Parts.{Ascend, IsObject, IsImage, interval_of, space_start, space_end}
 use Rattle.cap_image.specs.Records.{Records, AreRecords, interval_at}
