@@ -1,1 +1,4 @@
 pub mod Searches
+pub mod Repeated
+pub mod Intervals
+pub mod Sound

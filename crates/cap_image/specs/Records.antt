@@ -1,12 +1,12 @@
 -- The records of an image's objects, which follow its header: base, size, length of the name, and name.
-use Rattle.std.specs.Prelude.{ℕ, zero, suc, ◌+◌, ◌%◌, Bool, not, ◌==◌, ◌&&◌, nat_le, List, [], ◌∷◌, ◌++◌, take, drop, Result, Ok}
+use Rattle.std.specs.Prelude.{◌≡◌, ℕ, zero, suc, ◌+◌, ◌%◌, ◌<◌, ◌≤◌, Bool, not, ◌==◌, ◌&&◌, nat_le, IsTrue, List, [], ◌∷◌, ◌++◌, length, take, drop, map, All, Result, Ok}
 use Rattle.cap_base.specs.Field.{number_at}
 use Rattle.cap_base.specs.Steps.{◌>>=◌, ◌>>◌, refuse}
 use Rattle.cap_base.specs.Text.{is_plain}
 use Rattle.cap_base.specs.declared.check.Check.TheVariants.{ImageObject, ImageName}
 use Rattle.cap_base.specs.declared.refusal.Fault.{Fault}
 use Rattle.cap_image.specs.declared.records.ObjectRecord.{ObjectRecord}
-use Rattle.cap_image.specs.Parts.{space_start, space_end}
+use Rattle.cap_image.specs.Parts.{space_start, space_end, Ascend}
 use Rattle.cap_image.specs.Header.{reaches}
 
 -- some bytes from a place on
@@ -58,3 +58,23 @@ no_records = record { items = []; floor = space_start; at = 16 }
 -- the records of as many objects
 abbrev pub records_of : List ℕ → ℕ → Result Records Fault
 records_of bytes count = repeated (add_record bytes) count no_records
+
+-- whole pages, at least one, within the addresses, and a name of 1 to 255 printable characters inside the image
+pub record IsRecord (bytes : List ℕ) (r : ObjectRecord) : Type 0 where
+  pub base_in_pages : r.base % 4096 ≡ 0
+  pub size_in_pages : r.size % 4096 ≡ 0
+  pub some_bytes : 0 < r.size
+  pub within : r.base + r.size ≤ space_end
+  pub some_name : 0 < r.name_len
+  pub short_name : r.name_len ≤ 255
+  pub name_inside : r.name_at + r.name_len ≤ length bytes
+  pub plain_name : IsTrue (is_plain (piece bytes r.name_at r.name_len))
+
+abbrev pub interval_at : ObjectRecord → ℕ × ℕ
+interval_at r = (r.base, r.size)
+
+-- what records that were read have: the objects ascend
+pub record AreRecords (bytes : List ℕ) (records : Records) : Type 0 where
+  pub each : All (IsRecord bytes) records.items
+  pub ascending : Ascend space_start (map interval_at records.items) records.floor
+  pub within : records.floor ≤ space_end

@@ -1,15 +1,16 @@
 //! An image that was read.
 
-ghost use Rattle.cap_base.specs.Steps.{Reads};
+ghost use Rattle.cap_base.specs.Steps.{Gives, Reads};
 ghost use Rattle.std.specs.Prelude.{◌≡◌, IfOk};
 ghost use Rattle.cap_image.specs.Parts.{IsImage, is_tagged_in};
-ghost use Rattle.cap_image.specs.Reading.{IsInside, object_in, read_image};
+ghost use Rattle.cap_image.specs.Bodies.{IsInside, object_in};
+ghost use Rattle.cap_image.specs.Reading.{read_image};
 
-use crate::bodies::Body;
-use crate::header::Version;
-use crate::records::piece;
+use crate::bodies::{Body, read_bodies};
+use crate::header::{Version, read_header};
+use crate::records::{piece, read_records};
 use crate::tags::has_tag;
-use cap_base::Refusal;
+use cap_base::{Check, Refusal, Stop, refuse};
 use std::alloc::Global;
 use std::marker::Model;
 
@@ -24,7 +25,8 @@ pub struct Image {
 impl Model for Image {
     ghost use Rattle.std.specs.Prelude.{All};
     ghost use Rattle.cap_image.specs.Parts.{ImageParts, IsImage};
-    ghost use Rattle.cap_image.specs.Reading.{parts_in, IsInside};
+    ghost use Rattle.cap_image.specs.Bodies.{IsInside};
+    ghost use Rattle.cap_image.specs.Reading.{parts_in};
 
     ghost Value = { ImageParts };
 
@@ -131,9 +133,29 @@ fn is_tagged(bytes: &[u8], body: &Body, at: u64) -> bool
 ///
 /// The refusal names file 0, and is that of the first check which the bytes fail, in the order of the format: the
 /// header, each record, each body, and that nothing follows. `NoMemory` may come in place of any answer.
+#[tactic(auto, using(cap_base::proofs::Walk::refuses))]
 pub fn read(alloc: Global, bytes: Vec<u8>) -> Result<Image, Refusal>
     ensures value { Reads (λ image. image) 0 result (read_image bytes.items) }
     ensures sound { IfOk result IsImage }
 {
-    Err(Refusal::NoMemory)
+    match read_parts(alloc, bytes) {
+        Ok(image) => Ok(image),
+        Err(stop) => Err(stop.refusal(0)),
+    }
+}
+
+#[tactic(auto, unfolding(crate::specs::Reading::read_image), using(crate::proofs::Sound::is_image))]
+fn read_parts(alloc: Global, bytes: Vec<u8>) -> Result<Image, Stop>
+    ensures value { Gives (λ image. image) result (read_image bytes.items) }
+    ensures sound { IfOk result IsImage }
+{
+    let header = read_header(&bytes)?;
+    let records = read_records(alloc, &bytes, header.count)?;
+    let bodies = read_bodies(alloc, header.version, &bytes, &records.items, records.at)?;
+    refuse(bodies.at < bytes.len(), Check::ImageTail, bodies.at as u64)?;
+    Ok(Image {
+        version: header.version,
+        bytes,
+        bodies: bodies.items,
+    })
 }

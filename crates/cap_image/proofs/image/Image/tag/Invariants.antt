@@ -1,7 +1,7 @@
 use Rattle.std.proofs.Common.{◌≡◌, drop}
 use Rattle.std.specs.List.{list_any}
 use Rattle.cap_image.specs.Parts.{is_tagged_in, tag_in}
-use Rattle.cap_image.specs.Reading.{object_in}
+use Rattle.cap_image.specs.Bodies.{object_in}
 use Rattle.cap_image.proofs.image.Image.tag.Given as goal
 
 abbrev pub invariant-loop-body : goal.invariant-loop-body
