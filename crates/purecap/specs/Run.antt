@@ -21,6 +21,12 @@ pub record Stream : Type 0 where
   pub new : Option (List ℕ)
   pub faults : Count
 
+abbrev pub counted : ℕ → ℕ → Count
+counted before now = record { before = before; now = now }
+
+abbrev pub streamed : Option (List ℕ) → Option (List ℕ) → ℕ → ℕ → Stream
+streamed old new before now = record { old = old; new = new; faults = counted before now }
+
 -- the count is as before
 abbrev pub IsKept : Count → Type 0
 IsKept count = count.now ≡ count.before

@@ -1,7 +1,7 @@
 //! A run of the program: from its words to its status.
 
 ghost use Rattle.std.specs.Prelude.{◌≡◌};
-ghost use Rattle.purecap.specs.Run.{Runs, Answers, HasCauses, EndSays, end_status};
+ghost use Rattle.purecap.specs.Run.{counted, streamed, Runs, Answers, HasCauses, EndSays, end_status};
 
 use crate::faults::Failure;
 use crate::showing::show;
@@ -20,19 +20,19 @@ pub fn run<F: Files, O: Sink, E: Sink>(
     err: &mut E,
 ) -> u8
     ensures runs { Runs words.now (F.told files.old)
-        (record { before = F.read_faults files.old; now = F.read_faults files.new })
-        (record { old = O.told out.old; new = O.told out.new; faults = record { before = O.faults out.old; now = O.faults out.new } })
-        (record { old = E.told err.old; new = E.told err.new; faults = record { before = E.faults err.old; now = E.faults err.new } })
+        (counted (F.read_faults files.old) (F.read_faults files.new))
+        (streamed (O.told out.old) (O.told out.new) (O.faults out.old) (O.faults out.new))
+        (streamed (E.told err.old) (E.told err.new) (E.faults err.old) (E.faults err.new))
         result }
     ensures answers { Answers words.now (F.told files.old)
-        (record { before = F.read_faults files.old; now = F.read_faults files.new })
-        (record { old = O.told out.old; new = O.told out.new; faults = record { before = O.faults out.old; now = O.faults out.new } })
-        (record { old = E.told err.old; new = E.told err.new; faults = record { before = E.faults err.old; now = E.faults err.new } })
+        (counted (F.read_faults files.old) (F.read_faults files.new))
+        (streamed (O.told out.old) (O.told out.new) (O.faults out.old) (O.faults out.new))
+        (streamed (E.told err.old) (E.told err.new) (E.faults err.old) (E.faults err.new))
         result }
     ensures causes { HasCauses words.now
-        (record { before = F.read_faults files.old; now = F.read_faults files.new })
-        (record { old = O.told out.old; new = O.told out.new; faults = record { before = O.faults out.old; now = O.faults out.new } })
-        (record { old = E.told err.old; new = E.told err.new; faults = record { before = E.faults err.old; now = E.faults err.new } })
+        (counted (F.read_faults files.old) (F.read_faults files.new))
+        (streamed (O.told out.old) (O.told out.new) (O.faults out.old) (O.faults out.new))
+        (streamed (E.told err.old) (E.told err.new) (E.faults err.old) (E.faults err.new))
         result }
 
     // It changes nothing of the store but its count of failed reads.
@@ -52,9 +52,9 @@ fn perform<F: Files, O: Sink, E: Sink>(
     err: &mut E,
 ) -> u8
     ensures runs { Runs words.now (F.told files.old)
-        (record { before = F.read_faults files.old; now = F.read_faults files.new })
-        (record { old = O.told out.old; new = O.told out.new; faults = record { before = O.faults out.old; now = O.faults out.new } })
-        (record { old = E.told err.old; new = E.told err.new; faults = record { before = E.faults err.old; now = E.faults err.new } })
+        (counted (F.read_faults files.old) (F.read_faults files.new))
+        (streamed (O.told out.old) (O.told out.new) (O.faults out.old) (O.faults out.new))
+        (streamed (E.told err.old) (E.told err.new) (E.faults err.old) (E.faults err.new))
         result }
     ensures same_told { F.told files.new ≡ F.told files.old }
     ensures same_writing { F.writing files.new ≡ F.writing files.old }
@@ -73,7 +73,7 @@ fn perform<F: Files, O: Sink, E: Sink>(
 fn finish<E: Sink>(err: &mut E, path: &[u8], end: Result<(), Failure>) -> u8
     ensures status { result ≡ end_status end }
     ensures says { EndSays
-        (record { old = E.told err.old; new = E.told err.new; faults = record { before = E.faults err.old; now = E.faults err.new } })
+        (streamed (E.told err.old) (E.told err.new) (E.faults err.old) (E.faults err.new))
         path.now end }
 {
     match end {

@@ -1,11 +1,10 @@
 //! The command `show`: the report of an image, on standard output.
 
 ghost use Rattle.std.specs.Prelude.{◌≡◌, MatchResult, Ok};
-ghost use Rattle.cap_base.specs.declared.reading.FileRefusal.{FileRefusal as NotRead};
 ghost use Rattle.cap_image.specs.Reading.{read_image};
 ghost use Rattle.purecap.specs.Answer.{report_in};
 ghost use Rattle.purecap.specs.Reading.{IsOfCheck, IsFailureOf, unaccepted, unread};
-ghost use Rattle.purecap.specs.Run.{Shows};
+ghost use Rattle.purecap.specs.Run.{counted, streamed, Shows};
 
 use crate::faults::Failure;
 use cap_base::{Check, FileRefusal, Files, Refusal, Sink, read_file, send};
@@ -24,21 +23,15 @@ pub fn show<F: Files, O: Sink>(
     out: &mut O,
 ) -> Result<(), Failure>
     ensures ends { Shows (F.told files.old) image.now
-        (record { before = F.read_faults files.old; now = F.read_faults files.new })
-        (record { old = O.told out.old; new = O.told out.new; faults = record { before = O.faults out.old; now = O.faults out.new } })
+        (counted (F.read_faults files.old) (F.read_faults files.new))
+        (streamed (O.told out.old) (O.told out.new) (O.faults out.old) (O.faults out.new))
         result }
     ensures same_told { F.told files.new ≡ F.told files.old }
     ensures same_writing { F.writing files.new ≡ F.writing files.old }
     ensures write_count { F.write_faults files.new ≡ F.write_faults files.old }
 {
-    let bytes = match read_file(alloc, files, image, LARGEST_IMAGE) {
-        Ok(bytes) => bytes,
-        Err(refusal) => return Err(file_failure(refusal)),
-    };
-    let text = match image_report(alloc, bytes) {
-        Ok(text) => text,
-        Err(failure) => return Err(failure),
-    };
+    let bytes = read_file(alloc, files, image, LARGEST_IMAGE)?;
+    let text = image_report(alloc, bytes)?;
     match send(out, &text) {
         Ok(()) => Ok(()),
         Err(_) => Err(Failure::WriteFault),
@@ -61,17 +54,18 @@ fn image_report(alloc: Global, bytes: Vec<u8>) -> Result<Vec<u8>, Failure>
     }
 }
 
-// The failure of a file that was not read.
-fn file_failure(refusal: FileRefusal) -> Failure
-    ensures { result ≡ unread refusal }
-{
-    match refusal {
-        FileRefusal::NoFile => Failure::NoFile,
-        FileRefusal::TooLarge => Failure::Limit {
-            check: Check::FileSize.number(),
-        },
-        FileRefusal::Fault => Failure::ReadFault,
-        FileRefusal::NoMemory => Failure::NoMemory,
+impl From<FileRefusal> for Failure {
+    ghost from_gives = { λ refusal failure. failure ≡ unread refusal };
+
+    fn from(refusal: FileRefusal) -> Failure {
+        match refusal {
+            FileRefusal::NoFile => Failure::NoFile,
+            FileRefusal::TooLarge => Failure::Limit {
+                check: Check::FileSize.number(),
+            },
+            FileRefusal::Fault => Failure::ReadFault,
+            FileRefusal::NoMemory => Failure::NoMemory,
+        }
     }
 }
 
