@@ -47,11 +47,12 @@ Ascend from (x ∷ xs) to = (from ≤ x.0) × Ascend (x.0 + x.1) xs to
 abbrev pub interval_of : ImageObject → ℕ × ℕ
 interval_of o = (o.base, length o.bytes)
 
--- an object has whole pages, at least one, a name of 1 to 255 printable characters, and a tag for each granule
+-- an object has whole pages, at least one, below the end of the addresses, a name of 1 to 255 printable characters, and a tag for each granule
 pub record IsObject (o : ImageObject) : Type 0 where
   pub base_in_pages : o.base % 4096 ≡ 0
   pub size_in_pages : length o.bytes % 4096 ≡ 0
   pub some_bytes : 0 < length o.bytes
+  pub within : o.base + length o.bytes ≤ space_end
   pub some_name : 0 < length o.name
   pub short_name : length o.name ≤ 255
   pub plain_name : IsTrue (is_plain o.name)

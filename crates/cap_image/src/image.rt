@@ -37,7 +37,7 @@ impl Model for Image {
 
 impl Image {
     ghost use Rattle.std.specs.Prelude.{◌≡◌, ◌<◌, ◌==◌, length, slice_index_or};
-    ghost use Rattle.cap_image.specs.Parts.{no_object, tag_in};
+    ghost use Rattle.cap_image.specs.Parts.{IsObject, no_object, tag_in};
 
     /// The version of the image's format.
     pub fn version(&self) -> Version
@@ -64,7 +64,8 @@ impl Image {
     /// The address from which object `i` is mapped.
     pub fn base(&self, i: u32) -> u64
         requires { i < length self.now.objects }
-        ensures { result ≡ (slice_index_or self.now.objects i no_object).base }
+        ensures value { result ≡ (slice_index_or self.now.objects i no_object).base }
+        ensures sound { IsObject (slice_index_or self.now.objects i no_object) }
     {
         self.bodies[i as usize].of.base
     }

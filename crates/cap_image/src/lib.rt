@@ -13,8 +13,10 @@
 #![tactic(auto)]
 
 mod bodies;
+mod digits;
 mod header;
 mod image;
+mod lines;
 mod records;
 mod reporting;
 mod tags;

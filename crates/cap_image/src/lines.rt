@@ -1,0 +1,129 @@
+//! The lines of a report.
+
+ghost use Rattle.std.specs.Prelude.{◌≡◌, ◌++◌, ◌+◌, ◌-◌, ◌<◌, ◌≤◌, OnOk, length, slice_index_or};
+ghost use Rattle.cap_conc.specs.Computed.{fields_of};
+ghost use Rattle.cap_image.specs.Parts.{no_object};
+ghost use Rattle.cap_image.specs.Report.{hex, object_line, cap_line, fields_text, seal_text, flag_text as flag_text_of, last_line, word_in as word_in_of, IsGranuleOf};
+
+use crate::digits::{push_decimal, push_hex};
+use crate::image::Image;
+use cap_base::{NoMemory, u64_in};
+use cap_conc::{Fields, Word, decode};
+
+/// The object type of a capability that isn't sealed.
+const UNSEALED: u32 = 262_143;
+
+/// The object type of a sealed entry.
+const SENTRY: u32 = 262_142;
+
+/// Appends the line of object `i`.
+pub(crate) fn push_object_line(text: &mut Vec<u8>, image: &Image, i: u32) -> Result<(), NoMemory>
+    requires { i < length image.now.objects }
+    ensures { OnOk result (text.new.items ≡ text.old.items ++ object_line (slice_index_or image.now.objects i no_object)) }
+{
+    push_number(text, b"object 0x", u128::from(image.base(i)), 16)?;
+    push_number(text, b" 0x", u128::from(image.size(i)), 16)?;
+    text.extend_from_slice(b" ")?;
+    text.extend_from_slice(image.name(i))?;
+    text.extend_from_slice(b"\n")?;
+    Ok(())
+}
+
+/// Appends the line of a granule of object `i`.
+#[tactic(auto, unfolding(crate::specs::Report::cap_line))]
+pub(crate) fn push_cap_line(
+    text: &mut Vec<u8>,
+    image: &Image,
+    i: u32,
+    granule: u64,
+) -> Result<(), NoMemory>
+    requires object { i < length image.now.objects }
+    requires granule { IsGranuleOf (slice_index_or image.now.objects i no_object) granule }
+    ensures value { OnOk result (text.new.items ≡ text.old.items ++ cap_line (slice_index_or image.now.objects i no_object) granule) }
+    ensures longer { OnOk result (length text.old.items < length text.new.items) }
+{
+    let word = word_at(image, i, granule);
+    push_number(text, b"cap 0x", u128::from(granule), 16)?;
+    push_word(text, word)?;
+    text.extend_from_slice(b"\n")?;
+    Ok(())
+}
+
+/// Appends the last line, with the numbers of objects and of tagged words.
+pub(crate) fn push_last_line(text: &mut Vec<u8>, objects: u32, words: usize) -> Result<(), NoMemory>
+    ensures { OnOk result (text.new.items ≡ text.old.items ++ last_line objects words) }
+{
+    text.extend_from_slice(b"objects ")?;
+    push_decimal(text, u64::from(objects))?;
+    text.extend_from_slice(b" words ")?;
+    push_decimal(text, words as u64)?;
+    text.extend_from_slice(b"\n")?;
+    Ok(())
+}
+
+/// The word of a granule of object `i`.
+fn word_at(image: &Image, i: u32, granule: u64) -> Word
+    requires object { i < length image.now.objects }
+    requires granule { IsGranuleOf (slice_index_or image.now.objects i no_object) granule }
+    ensures { result ≡ word_in_of (slice_index_or image.now.objects i no_object).bytes (granule - (slice_index_or image.now.objects i no_object).base) }
+{
+    word_in(image.bytes(i), (granule - image.base(i)) as usize)
+}
+
+fn word_in(bytes: &[u8], at: usize) -> Word
+    requires { at + 16 ≤ length bytes.now }
+    ensures { result ≡ word_in_of bytes.now at }
+{
+    Word {
+        address: u64_in(bytes, at),
+        meta: u64_in(bytes, at + 8),
+    }
+}
+
+fn push_word(text: &mut Vec<u8>, word: Word) -> Result<(), NoMemory>
+    ensures { OnOk result (text.new.items ≡ text.old.items ++ fields_text (fields_of word)) }
+{
+    push_fields(text, decode(word))
+}
+
+#[tactic(auto, unfolding(crate::specs::Report::fields_text))]
+fn push_fields(text: &mut Vec<u8>, fields: Fields) -> Result<(), NoMemory>
+    ensures { OnOk result (text.new.items ≡ text.old.items ++ fields_text fields) }
+{
+    push_number(text, b" base 0x", u128::from(fields.base), 16)?;
+    push_number(text, b" top 0x", fields.top, 17)?;
+    push_number(text, b" cursor 0x", u128::from(fields.cursor), 16)?;
+    push_number(text, b" perms ", u128::from(fields.perms), 4)?;
+    text.extend_from_slice(b" flag ")?;
+    text.extend_from_slice(flag_text(fields.flag))?;
+    text.extend_from_slice(b" ")?;
+    push_seal(text, fields.otype)
+}
+
+fn flag_text(flag: bool) -> &'static [u8]
+    ensures { result.now ≡ flag_text_of flag }
+{
+    if flag { b"1" } else { b"0" }
+}
+
+fn push_seal(text: &mut Vec<u8>, object_type: u32) -> Result<(), NoMemory>
+    ensures { OnOk result (text.new.items ≡ text.old.items ++ seal_text object_type) }
+{
+    match object_type {
+        UNSEALED => text.extend_from_slice(b"unsealed")?,
+        SENTRY => text.extend_from_slice(b"sentry")?,
+        _ => {
+            text.extend_from_slice(b"sealed ")?;
+            push_decimal(text, u64::from(object_type))?;
+        }
+    }
+    Ok(())
+}
+
+/// Appends a number in base 16 behind what it is called.
+fn push_number(text: &mut Vec<u8>, label: &[u8], number: u128, digits: u32) -> Result<(), NoMemory>
+    ensures { OnOk result (text.new.items ≡ text.old.items ++ label.now ++ hex digits number) }
+{
+    text.extend_from_slice(label)?;
+    push_hex(text, number, digits)
+}
