@@ -1,12 +1,13 @@
--- A run that meets no fault gives the answer that its words and files define.
-use Rattle.std.proofs.Common.{◌≡◌, ◌≢◌, ℕ, true, List, [], Option, Some, None, Result, Ok, Err, refl, sym, subst, ap, ◌∙◌, inl, append-nil}
+-- A run that reads its files gives the answer that its words and files define, or a part of it.
+use Rattle.std.proofs.Common.{◌≡◌, ◌≢◌, ℕ, true, List, [], Option, Some, None, Result, Ok, Err, refl, sym, subst, ap, inl, inr, ◌⊎◌, append-nil}
 use Rattle.std.specs.Io.KnownBytes.{Appends}
 use Rattle.cap_base.specs.Outside.{Store, file_in}
 use Rattle.purecap.specs.declared.faults.Failure.{Failure}
+use Rattle.purecap.specs.declared.faults.Failure.TheVariants.{WriteFault}
 use Rattle.purecap.specs.Faults.{status_of, line_of}
 use Rattle.purecap.specs.Words.{Command, Show, command_of}
-use Rattle.purecap.specs.Answer.{Answer, answer_of, command_answer, shown}
-use Rattle.purecap.specs.Run.{Count, Stream, IsStill, IsWritten, IsKept, HasRisen, Says, IsRefused, EndsAs, Ends, EndSays, end_status, path_of, Runs, Gave, Answers}
+use Rattle.purecap.specs.Answer.{answer_of, command_answer, shown}
+use Rattle.purecap.specs.Run.{Count, Stream, IsStill, IsWritten, IsCut, IsKept, HasRisen, Says, IsRefused, EndsAs, Ends, EndSays, end_status, path_of, Runs, Gave, IsHalf, Answers}
 use Rattle.purecap.proofs.Ways.{or_fails, is_of_words, words_defined, Way, Done, Unread, CutShort, Starved, Refused, way_of}
 use Rattle.purecap.proofs.Causes.{words_fail}
 
@@ -33,17 +34,24 @@ module _ (reads : Count) (out err : Stream) (path : List ℕ) (end : Result Unit
       subst (λ (a : Result (List ℕ) Failure). Gave (answer_of path a) out err (end_status end)) (sym refused.defined)
       (record { is_status = ap end_status e; written = nothing_written out refused.still; says = line })
 
-  gave : (answer : Result (List ℕ) Failure) → Way answer reads out end → EndSays err path end → (HasRisen reads → ⊥) → (HasRisen out.faults → ⊥) → end_status end ≢ 12
-      → Gave (answer_of path answer) out err (end_status end)
-  gave answer (Done e d) says read write memory = gave_done answer d.bytes e d.defined d.written says
-  gave answer (Unread e u) says read write memory = absurd (read u.rose)
-  gave answer (CutShort e c) says read write memory = absurd (write c.written.rose)
-  gave answer (Starved e s) says read write memory = absurd (memory (ap end_status e))
-  gave answer (Refused failure e d r) says read write memory = gave_refused answer failure e r says
+  gave_half : (answer : Result (List ℕ) Failure) (bytes : List ℕ) → end ≡ Err WriteFault → answer ≡ Ok bytes → IsCut out bytes → EndSays err path end
+      → IsHalf (answer_of path answer) out err (end_status end)
+  gave_half answer bytes e is cut says =
+      let line = subst (EndSays err path) e says in
+      subst (λ (a : Result (List ℕ) Failure). IsHalf (answer_of path a) out err (end_status end)) (sym is)
+      (record { is_status = ap end_status e; succeeds = refl; written = cut; says = line })
+
+  gave : (answer : Result (List ℕ) Failure) → Way answer reads out end → EndSays err path end → (HasRisen reads → ⊥) → end_status end ≢ 12
+      → Gave (answer_of path answer) out err (end_status end) ⊎ IsHalf (answer_of path answer) out err (end_status end)
+  gave answer (Done e d) says read memory = inl (gave_done answer d.bytes e d.defined d.written says)
+  gave answer (Unread e u) says read memory = absurd (read u.rose)
+  gave answer (CutShort e c) says read memory = inr (gave_half answer c.bytes e c.defined c.written says)
+  gave answer (Starved e s) says read memory = absurd (memory (ap end_status e))
+  gave answer (Refused failure e d r) says read memory = inl (gave_refused answer failure e r says)
 
 command_gave : (command : Result Command Failure) (store : Store) (reads : Count) (out err : Stream) (end : Result Unit Failure) → or_fails is_of_words command ≡ true
-    → Ends command (Some store) reads out end → EndSays err (path_of command) end → (HasRisen reads → ⊥) → (HasRisen out.faults → ⊥) → end_status end ≢ 12
-    → Gave (command_answer command store) out err (end_status end)
+    → Ends command (Some store) reads out end → EndSays err (path_of command) end → (HasRisen reads → ⊥) → end_status end ≢ 12
+    → Gave (command_answer command store) out err (end_status end) ⊎ IsHalf (command_answer command store) out err (end_status end)
 command_gave (Ok (Show image)) store reads out err end words ends says =
     let there = subst (λ (file : Option (List ℕ)). EndsAs (shown file) reads out end) ends.is_file ends.ends in
     gave reads out err image end (shown (file_in store image)) (way_of (shown (file_in store image)) reads out end there) says

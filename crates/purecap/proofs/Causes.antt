@@ -1,5 +1,5 @@
 -- The causes of the answers of a run.
-use Rattle.std.proofs.Common.{◌≡◌, ◌≢◌, ◌<◌, ◌⊎◌, ◌↔◌, ℕ, Bool, true, false, cond, not, nat_lt, List, [], ◌∷◌, length, codes, Option, Some, None, IfSome, Result, Ok, Err, refl, sym, ap, subst, ◌∙◌, inl, inr, arith}
+use Rattle.std.proofs.Common.{◌≡◌, ◌≢◌, ◌<◌, ◌⊎◌, ℕ, Bool, true, false, cond, not, nat_lt, List, [], ◌∷◌, length, codes, Option, Some, None, Result, Ok, Err, refl, sym, ap, subst, ◌∙◌, inl, inr, arith}
 use Rattle.std.specs.Str.{bytes_eq}
 use Rattle.cap_base.specs.Check.{number_of, class_of}
 use Rattle.cap_base.specs.Outside.{Store}
@@ -11,10 +11,10 @@ use Rattle.cap_image.specs.Parts.{ImageParts}
 use Rattle.cap_image.specs.Reading.{read_image}
 use Rattle.purecap.specs.declared.faults.Failure.{Failure}
 use Rattle.purecap.specs.declared.faults.Failure.TheVariants.{Usage, NoFile, Malformed, Unsupported, Limit, ReadFault, WriteFault, NoMemory, NotBuilt}
-use Rattle.purecap.specs.Faults.{status_of, line_of}
-use Rattle.purecap.specs.Words.{Command, Show, is_path, show_command, show_words, command_of}
+use Rattle.purecap.specs.Faults.{status_of}
+use Rattle.purecap.specs.Words.{Command, Show, is_path, show_words, command_of}
 use Rattle.purecap.specs.Answer.{failure_by, report_in, shown}
-use Rattle.purecap.specs.Run.{Count, Stream, IsStill, IsKept, HasRisen, IsRefused, Ends, EndSays, Says, end_status, path_of, Runs, HasCauses}
+use Rattle.purecap.specs.Run.{Count, Stream, IsStill, HasRisen, Ends, EndSays, end_status, path_of, Runs, HasCauses}
 use Rattle.purecap.proofs.Ways.{is_defined, is_of_words, is_of_file, or_fails, words_defined, Way, Done, Unread, CutShort, Starved, Refused, way_of}
 
 -- words fail as words do

@@ -1,28 +1,20 @@
 -- How the command `show` ends, from what its steps give.
-use Rattle.std.proofs.Common.{◌≡◌, ◌<◌, ◌≤◌, ◌⊎◌, ◌^◌, ◌+◌, ℕ, Bool, true, false, cond, nat_lt, List, length, Option, Some, None, IfSome, Result, Ok, Err, refl, sym, ap, subst, ◌∙◌, inl, inr, arith}
+use Rattle.std.proofs.Common.{◌≡◌, ◌<◌, ◌≤◌, ◌^◌, ◌+◌, ℕ, Bool, true, false, cond, nat_lt, List, length, Option, Some, None, IfSome, Result, Ok, Err, refl, sym, ap, subst, arith}
 use Rattle.std.proofs.Math.ListN.{replicate}
 use Rattle.std.proofs.lemmas.Bool.Decides.{nat_tests}
 use Rattle.std.proofs.lemmas.List.{length-replicate}
-use Rattle.cap_base.specs.Check.{number_of, class_of}
+use Rattle.cap_base.specs.Check.{number_of}
 use Rattle.cap_base.specs.Outside.{Store, file_in}
 use Rattle.cap_base.specs.ReadFile.{IsFile, IsLarger, FileRefused, FaultCounted}
-use Rattle.cap_base.specs.Refusal.{by_class, refusal_of}
-use Rattle.cap_base.specs.Steps.{refused}
 use Rattle.cap_base.specs.declared.check.Check.TheVariants.{FileSize}
-use Rattle.cap_base.specs.declared.check.Class.{Class}
-use Rattle.cap_base.specs.declared.check.Class.TheVariants as classes
 use Rattle.cap_base.specs.declared.reading.FileRefusal.{FileRefusal}
 use Rattle.cap_base.specs.declared.reading.FileRefusal.TheVariants as files
-use Rattle.cap_base.specs.declared.refusal.Fault.{Fault}
-use Rattle.cap_base.specs.declared.refusal.Refusal.{Refusal}
-use Rattle.cap_base.specs.declared.refusal.Refusal.TheVariants as refusals
-use Rattle.cap_image.specs.Parts.{ImageParts}
 use Rattle.cap_image.specs.Reading.{read_image}
 use Rattle.purecap.specs.declared.faults.Failure.{Failure}
 use Rattle.purecap.specs.declared.faults.Failure.TheVariants.{Usage, NoFile, Malformed, Unsupported, Limit, ReadFault, WriteFault, NoMemory, NotBuilt}
-use Rattle.purecap.specs.Answer.{failure_by, failure_of, report_in, file_report, shown}
-use Rattle.purecap.specs.Reading.{unread, unaccepted, IsOfCheck, IsFailureOf}
-use Rattle.purecap.specs.Run.{Count, Stream, IsStill, IsKept, IsRefused, EndsAs, Shows}
+use Rattle.purecap.specs.Answer.{report_in, shown}
+use Rattle.purecap.specs.Reading.{unread, IsFailureOf}
+use Rattle.purecap.specs.Run.{Count, Stream, IsStill, IsKept, Outputs, EndsAs, Shows}
 
 -- there are bytes that are more than the limit
 large : (limit : ℕ) → (bytes : List ℕ) × (limit < length bytes)
@@ -84,6 +76,13 @@ shows_read told image bytes reads out end is ends = record {
   is_file = this_file told image bytes is;
   ends = subst (λ (answer : Result (List ℕ) Failure). EndsAs answer reads out end) (sym (report_within bytes is.0)) ends;
 }
+
+-- the file was read, and its report written
+pub ends_output : (answer : Result (List ℕ) Failure) (reads : Count) (out : Stream) (bytes : List ℕ) (end : Result Unit Failure) → answer ≡ Ok bytes → IsKept reads → Outputs out bytes end
+    → EndsAs answer reads out end
+ends_output answer reads out bytes (Ok _) is kept written = record { bytes = bytes; defined = is; written = written; reads_kept = kept }
+ends_output answer reads out bytes (Err failure) is kept cut =
+    subst (λ (f : Failure). EndsAs answer reads out (Err f)) (sym cut.0) (record { bytes = bytes; defined = is; written = cut.1; reads_kept = kept })
 
 -- the file was read, and refused
 pub ends_refused : (answer : Result (List ℕ) Failure) (reads : Count) (out : Stream) (failure : Failure) → IsFailureOf answer failure → IsStill out → IsKept reads

@@ -1,5 +1,5 @@
 -- How commands end, by cases.
-use Rattle.std.proofs.Common.{◌≡◌, ℕ, Bool, true, false, List, Option, Result, Ok, Err, refl}
+use Rattle.std.proofs.Common.{◌≡◌, ℕ, Bool, true, false, List, Result, Ok, Err, refl}
 use Rattle.purecap.specs.declared.faults.Failure.{Failure}
 use Rattle.purecap.specs.declared.faults.Failure.TheVariants.{Usage, NoFile, Malformed, Unsupported, Limit, ReadFault, WriteFault, NoMemory, NotBuilt}
 use Rattle.purecap.specs.Run.{Count, Stream, IsDone, IsCutShort, IsRefused, IsUnread, IsStarved, EndsAs}

@@ -1,5 +1,5 @@
 -- What a run leaves, and the causes of its answers.
-use Rattle.std.specs.Prelude.{◌≡◌, ◌≢◌, ◌<◌, ◌⊎◌, ◌↔◌, ℕ, List, [], Option, IfSome, Result, Ok, Err, MatchResult}
+use Rattle.std.specs.Prelude.{◌≡◌, ◌≢◌, ◌<◌, ◌⊎◌, ◌↔◌, ℕ, List, [], Option, IfSome, Result, Ok, Err}
 use Rattle.std.specs.Io.KnownBytes.{Appends}
 use Rattle.cap_base.specs.Check.{number_of}
 use Rattle.cap_base.specs.Outside.{Store, file_in, Rose, AppendsFront}
@@ -49,6 +49,11 @@ pub record IsWritten (out : Stream) (bytes : List ℕ) : Type 0 where
 pub record IsCut (out : Stream) (bytes : List ℕ) : Type 0 where
   pub front : AppendsFront out.old out.new bytes
   pub rose : HasRisen out.faults
+
+-- these bytes were written, or a front of them and then a write failed
+abbrev pub Outputs : Stream → List ℕ → Result Unit Failure → Type 0
+Outputs out bytes (Ok _) = IsWritten out bytes
+Outputs out bytes (Err failure) = (failure ≡ WriteFault) × IsCut out bytes
 
 -- the answer's bytes stand on standard output
 pub record IsDone (answer : Result (List ℕ) Failure) (reads : Count) (out : Stream) : Type 0 where
@@ -131,10 +136,18 @@ pub record Gave (answer : Answer) (out err : Stream) (status : ℕ) : Type 0 whe
   pub written : IsWritten out answer.output
   pub says : Says err answer.line
 
--- over a store that tells its files, a run gives the defined answer unless a count rose or memory ran out
+-- a run was to give this answer, and wrote a front of its bytes before a write failed
+pub record IsHalf (answer : Answer) (out err : Stream) (status : ℕ) : Type 0 where
+  pub is_status : status ≡ 11
+  pub succeeds : answer.status ≡ 0
+  pub written : IsCut out answer.output
+  pub says : Says err (line_of [] WriteFault)
+
+-- over a store that tells its files, where no read failed and memory did not run out, a run gives the defined answer; it
+-- may only be cut short, where the count of standard output rose
 abbrev pub Answers : List (List ℕ) → Option Store → Count → Stream → Stream → ℕ → Type 0
 Answers words told reads out err status =
-    IfSome told (λ store. (HasRisen reads → ⊥) → (HasRisen out.faults → ⊥) → status ≢ 12 → Gave (answer_to words store) out err status)
+    IfSome told (λ store. (HasRisen reads → ⊥) → status ≢ 12 → Gave (answer_to words store) out err status ⊎ IsHalf (answer_to words store) out err status)
 
 -- the causes of the answers, over any store and any sinks
 pub record HasCauses (words : List (List ℕ)) (reads : Count) (out err : Stream) (status : ℕ) : Type 0 where

@@ -4,7 +4,7 @@ ghost use Rattle.std.specs.Prelude.{◌≡◌, MatchResult, Ok};
 ghost use Rattle.cap_image.specs.Reading.{read_image};
 ghost use Rattle.purecap.specs.Answer.{report_in};
 ghost use Rattle.purecap.specs.Reading.{IsOfCheck, IsFailureOf, unaccepted, unread};
-ghost use Rattle.purecap.specs.Run.{counted, streamed, Shows};
+ghost use Rattle.purecap.specs.Run.{counted, streamed, Outputs, Shows};
 
 use crate::faults::Failure;
 use cap_base::{Check, FileRefusal, Files, Refusal, Sink, read_file, send};
@@ -32,7 +32,14 @@ pub fn show<F: Files, O: Sink>(
 {
     let bytes = read_file(alloc, files, image, LARGEST_IMAGE)?;
     let text = image_report(alloc, bytes)?;
-    match send(out, &text) {
+    write_output(out, &text)
+}
+
+// Writes these bytes to standard output. It takes no memory.
+fn write_output<O: Sink>(out: &mut O, bytes: &[u8]) -> Result<(), Failure>
+    ensures { Outputs (streamed (O.told out.old) (O.told out.new) (O.faults out.old) (O.faults out.new)) bytes.now result }
+{
+    match send(out, bytes) {
         Ok(()) => Ok(()),
         Err(_) => Err(Failure::WriteFault),
     }

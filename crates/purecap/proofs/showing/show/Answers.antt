@@ -1,6 +1,6 @@
 use Rattle.std.proofs.Common.{refl}
 use Rattle.std.proofs.lemmas.Result.{err_from_is_err_and}
-use Rattle.purecap.proofs.Shown.{shows_unread, shows_read, ends_refused}
+use Rattle.purecap.proofs.Shown.{shows_unread, shows_read, ends_output, ends_refused}
 use Rattle.purecap.proofs.showing.show.Goals as goal
 
 pub returns-in_err-bytes-clause-ends : goal.returns-in_err-bytes-clause-ends
@@ -13,22 +13,7 @@ returns-in_err-text-clause-ends g c =
     let p = err_from_is_err_and c.from_residual-in_err-text.result c.from_residual-in_err-text.ensures.1 in
     rw (p.1, p.2) (shows_read _ _ c.in_ok-bytes.bytes.items _ _ _ c.in_ok-bytes.ensures.reads (ends_refused _ _ _ _ c.in_err-text.ensures (record { bytes = refl; count = refl }) c.in_ok-bytes.ensures.read_cause))
 
-pub returns-in-Ok-clause-ends : goal.returns-in-Ok-clause-ends
-returns-in-Ok-clause-ends g c =
-    let sent = rw c.deref.ensures.value at c.in-Ok.ensures in
-    shows_read _ _ c.in_ok-bytes.bytes.items _ _ _ c.in_ok-bytes.ensures.reads (record {
-      bytes = c.in_ok-text.text.items;
-      defined = c.in_ok-text.ensures;
-      written = record { appended = sent.0; count = sent.1 };
-      reads_kept = c.in_ok-bytes.ensures.read_cause;
-    })
-
 pub returns-clause-ends : goal.returns-clause-ends
 returns-clause-ends g c =
-    let sent = rw c.deref.ensures.value at c.in-Err.ensures in
-    shows_read _ _ c.in_ok-bytes.bytes.items _ _ _ c.in_ok-bytes.ensures.reads (record {
-      bytes = c.in_ok-text.text.items;
-      defined = c.in_ok-text.ensures;
-      written = record { front = sent.0; rose = sent.1 };
-      reads_kept = c.in_ok-bytes.ensures.read_cause;
-    })
+    let written = rw c.deref.ensures.value at c.write_output.ensures in
+    shows_read _ _ c.in_ok-bytes.bytes.items _ _ _ c.in_ok-bytes.ensures.reads (ends_output _ _ _ _ _ c.in_ok-text.ensures c.in_ok-bytes.ensures.read_cause written)
