@@ -1,5 +1,5 @@
-ghost use Rattle.std.specs.Prelude.{◌≡◌, ℕ, ◌+◌, ◌-◌, ◌*◌, ◌/◌, ◌%◌, ◌^◌, ◌<◌, ◌≤◌};
-ghost use Rattle.cap_conc.specs.Metadata.{architectural, exponent_of, bottom_of, top_of, restored_top};
+ghost use Rattle.std.specs.Prelude.{◌≡◌, ◌+◌, ◌*◌, ◌^◌, ◌<◌, ◌≤◌};
+ghost use Rattle.cap_conc.specs.Metadata.{exponent_of, bottom_of, top_of, restored_top};
 ghost use Rattle.cap_conc.specs.Bounds.{IsRegion, IsMeant, corrected_top};
 ghost use Rattle.cap_conc.specs.Decoding.{DecodesTo};
 ghost use Rattle.cap_conc.specs.Computed.{fields_of};

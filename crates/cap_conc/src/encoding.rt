@@ -1,4 +1,4 @@
-ghost use Rattle.std.specs.Prelude.{true, ◌≡◌, ℕ, ◌+◌, ◌-◌, ◌*◌, ◌/◌, ◌%◌, ◌^◌, ◌<◌, ◌≤◌};
+ghost use Rattle.std.specs.Prelude.{true, ◌≡◌, ◌+◌, ◌^◌, ◌<◌, ◌≤◌};
 ghost use Rattle.cap_conc.specs.Encoding.{compressed, fields_with, word_of};
 ghost use Rattle.cap_conc.specs.Decoding.{DecodesTo};
 ghost use Rattle.cap_conc.specs.Computed.{fields_of, is_exact};

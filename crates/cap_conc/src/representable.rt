@@ -1,5 +1,5 @@
-ghost use Rattle.std.specs.Prelude.{◌≡◌, ℕ, ◌+◌, ◌-◌, ◌*◌, ◌/◌, ◌%◌, ◌^◌, ◌<◌, ◌≤◌, ◌↔◌, IsTrue};
-ghost use Rattle.cap_conc.specs.Exact.{IsExact, IsRepresentableLength, IsAlignment, IsRepresentableAlignment, IsHighestBit};
+ghost use Rattle.std.specs.Prelude.{◌≡◌, ℕ, ◌-◌, ◌^◌, ◌<◌, ◌≤◌, ◌↔◌, IsTrue};
+ghost use Rattle.cap_conc.specs.Exact.{IsExact, IsRepresentableLength, IsRepresentableAlignment, IsHighestBit};
 ghost use Rattle.cap_conc.specs.Computed.{is_exact, grain_of, representable_length, representable_alignment};
 
 /// Whether a capability can have exactly these bounds: a length below 4096 bytes is exact anywhere, and a longer one
