@@ -1,6 +1,6 @@
 //! The real files and streams. They tell no contents, and each error that they answer is counted as a fault.
 
-ghost use Rattle.std.specs.Prelude.{None, ◌≤◌};
+ghost use Rattle.std.specs.Prelude.{None, ◌≡◌, ◌≤◌};
 ghost use Rattle.cap_base.specs.Outside.{Rose, count_of, count_of-fits};
 
 use cap_base::{Failed, Files, Opened, Sink};
@@ -18,8 +18,11 @@ pub struct DiskFiles<'a, R: rt::Files> {
 }
 
 impl<'a, R: rt::Files> DiskFiles<'a, R> {
-    /// Files on the disk of this runtime. None is open.
-    pub fn new(rt: &'a R) -> Self {
+    /// Files on the disk of this runtime. None is open, and no fault is counted.
+    pub fn new(rt: &'a R) -> Self
+        ensures reads { result.read_faults ≡ 0 }
+        ensures writes { result.write_faults ≡ 0 }
+    {
         DiskFiles {
             rt,
             reading: None,
@@ -112,8 +115,10 @@ pub struct StdSink<W: Write + Drop> {
 }
 
 impl<W: Write + Drop> StdSink<W> {
-    /// The stream that this writer writes to.
-    pub fn new(writer: W) -> Self {
+    /// The stream that this writer writes to, with no fault counted.
+    pub fn new(writer: W) -> Self
+        ensures { result.faults ≡ 0 }
+    {
         StdSink { writer, faults: 0 }
     }
 }

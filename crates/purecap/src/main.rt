@@ -4,7 +4,8 @@
 //! for any store and any sinks: what each answer says, what it leaves, and what causes it. A command has one answer to
 //! its words and files, and only a counted fault of the outside or want of memory stands in the place of it.
 //!
-//! - `words` reads the words alone; then each command has a function of its own, `show` in `showing`.
+//! - `given` takes the words from the system, and `words` says what they ask for; then each command has a function of
+//!   its own, `show` in `showing`.
 //! - `faults` has the status and the line of each failure. A line is written without memory.
 //! - `disk` has the real files and streams, the one part that is trusted: they tell no contents, so over them only the
 //!   causes by counts are proved.

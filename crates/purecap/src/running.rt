@@ -24,11 +24,15 @@ pub fn run<F: Files, O: Sink, E: Sink>(
         (streamed (O.told out.old) (O.told out.new) (O.faults out.old) (O.faults out.new))
         (streamed (E.told err.old) (E.told err.new) (E.faults err.old) (E.faults err.new))
         result }
+
+    // Over a store that tells its files, it gives the answer that the words and the files define.
     ensures answers { Answers words.now (F.told files.old)
         (counted (F.read_faults files.old) (F.read_faults files.new))
         (streamed (O.told out.old) (O.told out.new) (O.faults out.old) (O.faults out.new))
         (streamed (E.told err.old) (E.told err.new) (E.faults err.old) (E.faults err.new))
         result }
+
+    // Over any store, each answer has its cause.
     ensures causes { HasCauses words.now
         (counted (F.read_faults files.old) (F.read_faults files.new))
         (streamed (O.told out.old) (O.told out.new) (O.faults out.old) (O.faults out.new))
