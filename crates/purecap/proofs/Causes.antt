@@ -12,7 +12,7 @@ use Rattle.cap_image.specs.Reading.{read_image}
 use Rattle.purecap.specs.declared.faults.Failure.{Failure}
 use Rattle.purecap.specs.declared.faults.Failure.TheVariants.{Usage, NoFile, Malformed, Unsupported, Limit, ReadFault, WriteFault, NoMemory, NotBuilt}
 use Rattle.purecap.specs.Faults.{status_of}
-use Rattle.purecap.specs.Words.{Command, Show, is_path, show_words, command_of}
+use Rattle.purecap.specs.Words.{Command, Show, is_option, is_path, ends_options, show_image, show_operand, show_pair, show_words, command_of}
 use Rattle.purecap.specs.Answer.{failure_by, report_in, shown}
 use Rattle.purecap.specs.Run.{Count, Stream, IsStill, HasRisen, Ends, EndSays, end_status, path_of, Runs, HasCauses}
 use Rattle.purecap.proofs.Ways.{is_defined, is_of_words, is_of_file, or_fails, words_defined, Way, Done, Unread, CutShort, Starved, Refused, way_of}
@@ -22,11 +22,22 @@ either : {A : Type 0} (test : Failure → Bool) (b : Bool) (x y : Result A Failu
 either test true x y xs ys = xs
 either test false x y xs ys = ys
 
+image_fails : (image : List ℕ) → or_fails is_of_words (show_image image) ≡ true
+image_fails image =
+    either is_of_words (not (is_path image)) (Err Usage) _ refl (either is_of_words (nat_lt 255 (length image)) (Err (Limit (number_of PathLength))) (Ok (Show image)) refl refl)
+
+operand_fails : (word : List ℕ) → or_fails is_of_words (show_operand word) ≡ true
+operand_fails word = either is_of_words (is_option word) (Err Usage) (show_image word) refl (image_fails word)
+
+pair_fails : (first second : List ℕ) → or_fails is_of_words (show_pair first second) ≡ true
+pair_fails first second =
+    either is_of_words (ends_options first) (show_image second) _ (image_fails second) (either is_of_words (ends_options second) (show_operand first) (Err Usage) (operand_fails first) refl)
+
 show_fails : (words : List (List ℕ)) → or_fails is_of_words (show_words words) ≡ true
 show_fails [] = refl
-show_fails (image ∷ []) =
-    either is_of_words (not (is_path image)) (Err Usage) _ refl (either is_of_words (nat_lt 255 (length image)) (Err (Limit (number_of PathLength))) (Ok (Show image)) refl refl)
-show_fails (image ∷ word ∷ words) = refl
+show_fails (image ∷ []) = operand_fails image
+show_fails (first ∷ second ∷ []) = pair_fails first second
+show_fails (first ∷ second ∷ third ∷ words) = refl
 
 pub words_fail : (words : List (List ℕ)) → or_fails is_of_words (command_of words) ≡ true
 unfolding command_of

@@ -17,16 +17,31 @@ pub data Command : Type 0 where
 abbrev pub is_option : List ℕ → Bool
 is_option word = nat_lt 1 (length word) && slice_index_or word 0 0 == 45
 
--- a path: not empty, of printable ASCII characters, and no option
+-- a path: not empty, of printable ASCII characters
 abbrev pub is_path : List ℕ → Bool
-is_path word = nat_lt 0 (length word) && not (is_option word) && is_plain word
+is_path word = nat_lt 0 (length word) && is_plain word
 
--- `show IMAGE`
-abbrev pub show_command : List ℕ → Result Command Failure
-show_command image = if not (is_path image) then Err Usage else (if nat_lt 255 (length image) then Err (Limit (number_of PathLength)) else Ok (Show image))
+-- no word behind this one is an option (POSIX, utility syntax guideline 10)
+abbrev pub ends_options : List ℕ → Bool
+ends_options word = bytes_eq word (codes "--")
 
+-- `show` of the image that a word names
+abbrev pub show_image : List ℕ → Result Command Failure
+show_image image = if not (is_path image) then Err Usage else (if nat_lt 255 (length image) then Err (Limit (number_of PathLength)) else Ok (Show image))
+
+-- the same where an option could stand, of which `show` has none
+abbrev pub show_operand : List ℕ → Result Command Failure
+show_operand word = if is_option word then Err Usage else show_image word
+
+-- two words, of which one ends the options
+abbrev pub show_pair : List ℕ → List ℕ → Result Command Failure
+show_pair first second =
+    if ends_options first then show_image second else (if ends_options second then show_operand first else Err Usage)
+
+-- `IMAGE`, `-- IMAGE` or `IMAGE --`
 abbrev pub show_words : List (List ℕ) → Result Command Failure
-show_words (image ∷ []) = show_command image
+show_words (image ∷ []) = show_operand image
+show_words (first ∷ second ∷ []) = show_pair first second
 show_words words = Err Usage
 
 -- what the words ask for: `show` alone is built

@@ -229,9 +229,20 @@ fn words_are_read(rt: HostRuntime) -> Result<(), Fail> {
     check(&rt, alloc, &["show", "i", "i"], &EMPTY, CALM, usage)?;
     check(&rt, alloc, &["show", ""], &EMPTY, CALM, usage)?;
     check(&rt, alloc, &["show", "-x"], &EMPTY, CALM, usage)?;
+    check(&rt, alloc, &["show", "--"], &EMPTY, CALM, usage)?;
     check(&rt, alloc, &["show", "i\u{7f}"], &EMPTY, CALM, usage)?;
     let missing = (3, "", "purecap: nothere: no such file\n");
     check(&rt, alloc, &["show", "nothere"], &EMPTY, CALM, missing)?;
+    check(
+        &rt,
+        alloc,
+        &["show", "nothere", "--"],
+        &EMPTY,
+        CALM,
+        missing,
+    )?;
+    let option = (3, "", "purecap: -x: no such file\n");
+    check(&rt, alloc, &["show", "--", "-x"], &EMPTY, CALM, option)?;
     let dash = (3, "", "purecap: -: no such file\n");
     check(&rt, alloc, &["show", "-"], &EMPTY, CALM, dash)?;
     let other = (13, "", "purecap: not built\n");
