@@ -1,0 +1,5 @@
+pub mod Faults
+pub mod Words
+pub mod Answer
+pub mod Reading
+pub mod Run

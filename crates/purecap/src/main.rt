@@ -1,0 +1,40 @@
+//! The program `purecap`: a static linker and a run-time linker for pure-capability programs, on the command line.
+//!
+//! `run` is all of it: from the words, over a store of files and two sinks, to the status of the process. It is proved
+//! for any store and any sinks: what each answer says, what it leaves, and what causes it. A command has one answer to
+//! its words and files, and only a counted fault of the outside or want of memory stands in the place of it.
+//!
+//! - `given` takes the words from the system, and `words` says what they ask for; then each command has a function of
+//!   its own, `show` in `showing`.
+//! - `faults` has the status and the line of each failure. A line is written without memory.
+//! - `disk` has the real files and streams, the one part that is trusted: they tell no contents, so over them only the
+//!   causes by counts are proved.
+//!
+//! It knows no format and links nothing: images stand in `cap_image`.
+#![tactic(auto)]
+
+mod disk;
+mod faults;
+mod given;
+mod running;
+mod showing;
+#[cfg(test)]
+mod tests;
+mod words;
+
+use crate::disk::{DiskFiles, StdSink};
+use crate::given::given_words;
+use crate::running::run;
+use std::process::ExitCode;
+
+const OUT_OF_MEMORY: u8 = 12;
+
+fn main(rt: HostRuntime) -> ExitCode {
+    let Ok(words) = given_words(&rt) else {
+        return ExitCode::from(OUT_OF_MEMORY);
+    };
+    let mut files = DiskFiles::new(&rt);
+    let mut out = StdSink::new(rt.stdout());
+    let mut err = StdSink::new(rt.stderr());
+    ExitCode::from(run(rt.alloc(), &words, &mut files, &mut out, &mut err))
+}
