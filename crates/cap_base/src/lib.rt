@@ -45,3 +45,6 @@ pub use sending::{send, send_next};
 pub use step::{is_inside, refuse};
 pub use text::is_plain;
 pub use words::Words;
+
+#[cfg(test)]
+mod tests;

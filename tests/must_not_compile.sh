@@ -1,0 +1,75 @@
+#!/usr/bin/env bash
+# What the types alone refuse: each snippet here must not compile, with the named error. No proof is tried.
+#
+# A capability can be made from the root of a mapping alone, and a span of addresses can't be let go.
+set -u
+cd "$(dirname "$0")/.." || exit 2
+folder=$(mktemp -d) || exit 2
+trap 'rm -rf "$folder"' EXIT
+cp HANDLES "$folder"
+grep -E '^(cap_conc|cap_own):' crates.txt > "$folder/crates.txt"
+mkdir "$folder/crates"
+for crate in cap_conc cap_own; do
+    mkdir "$folder/crates/$crate"
+    cp -r "crates/$crate"/{src,specs,proofs} "$folder/crates/$crate"
+done
+printf 'pin: cap_conc cap_own\n' >> "$folder/crates.txt"
+mkdir -p "$folder/crates/pin/src"
+
+failed=0
+
+# refuse ERROR NAME: the code on standard input must be refused with this error
+refuse() {
+    { printf '#![tactic(auto)]\n\n'; cat; } > "$folder/crates/pin/src/lib.rt"
+    if (cd "$folder/crates/pin" && rt check --only= > "$folder/log" 2>&1); then
+        echo "compiles: $2"
+        failed=1
+    elif grep -q "error\[$1\]" "$folder/log"; then
+        echo "refused ($1): $2"
+    else
+        echo "refused otherwise: $2"
+        grep -m 5 'error' "$folder/log"
+        failed=1
+    fi
+}
+refuse private-field "a capability with fields of one's own" <<'CODE'
+use cap_own::{Derived, Perms, Root};
+
+pub fn forge(root: &Root) -> Derived<'_> {
+    Derived {
+        root,
+        base: 0,
+        len: 16,
+        cursor: 0,
+        perms: Perms::DATA,
+        flag: false,
+        sealed: false,
+    }
+}
+CODE
+
+refuse private-field "a span of addresses that no space gave" <<'CODE'
+use cap_own::Span;
+
+pub fn forge() -> Span {
+    Span { base: 0, len: 4096 }
+}
+CODE
+
+refuse linear-value-let-go "a span that is let go" <<'CODE'
+use cap_own::Span;
+
+pub fn lose(span: Span) -> u64 {
+    span.len()
+}
+CODE
+
+refuse linear-value-let-go "a root that is let go" <<'CODE'
+use cap_own::Root;
+
+pub fn lose(root: Root) -> u64 {
+    root.len()
+}
+CODE
+
+exit $failed
