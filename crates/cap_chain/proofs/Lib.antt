@@ -1,0 +1,7 @@
+pub mod ChainLemmas
+pub mod FirstLemmas
+pub mod LastLemmas
+pub mod MarkLemmas
+pub mod SoundLemmas
+pub mod BuildLemmas
+mod WorkedTables

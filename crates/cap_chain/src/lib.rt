@@ -1,0 +1,30 @@
+//! Look-up of names by the hash table of the System V gABI (DT_HASH): chains of indices, one for each bucket.
+//!
+//! - `hash` is the hash of a name. `build` makes the words of a new table, in which each chain descends.
+//! - `adopt` takes the words that a file has. They may lead anywhere: past the names, in a ring, from one chain into
+//!   another, or past a defined name. It goes through all chains once, with a mark for each index, so that its work is
+//!   in proportion to the words, and accepts exactly the sound tables.
+//! - In a sound table `find` goes through one chain alone and still answers for the whole list of names: with the first
+//!   index that has the name and is defined, or none. `walk` tells how many indices that look-up passes.
+//! - `built_are_sound` is the law that what `build` makes can be adopted.
+//!
+//! A table knows names and which of them are defined, and nothing else of symbols. Where the words stand in a file, and
+//! that there are as many as they tell of, is checked in `cap_elf`; which symbols count as defined, and in which objects
+//! a name is sought, is decided in `cap_scope`.
+#![tactic(auto)]
+
+mod adopting;
+mod building;
+mod chains;
+mod finding;
+mod hashing;
+mod laws;
+
+pub use adopting::{AdoptRefusal, adopt};
+pub use building::build;
+pub use chains::Chains;
+pub use hashing::hash;
+pub use laws::built_are_sound;
+
+#[cfg(test)]
+mod tests;

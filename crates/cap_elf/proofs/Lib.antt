@@ -1,0 +1,9 @@
+pub mod Walk
+pub mod Passing
+pub mod Apart
+pub mod ReadSegments
+pub mod ReadRelro
+pub mod ReadNames
+pub mod ReadSymbols
+pub mod ReadTables
+pub mod ReadLaw
