@@ -1,4 +1,0 @@
-pub mod Growing
-pub mod Distinct
-pub mod Candidates
-pub mod Choices

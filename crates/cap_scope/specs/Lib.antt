@@ -1,5 +1,0 @@
-pub mod Tree
-pub mod Queue
-pub mod Candidates
-pub mod Chosen
-pub mod Making
