@@ -1,0 +1,4 @@
+pub mod Growing
+pub mod Distinct
+pub mod Candidates
+pub mod Choices

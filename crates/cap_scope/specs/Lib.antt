@@ -1,0 +1,5 @@
+pub mod Tree
+pub mod Queue
+pub mod Candidates
+pub mod Chosen
+pub mod Making
