@@ -15,10 +15,11 @@ use cap_base::{Check, Fault, Name, Stop, is_plain, refuse};
 use std::alloc::{AllocError, Global};
 use std::collections::BTreeSet;
 
+/// A symbol with its name.
 #[derive(Drop)]
-pub struct NamedSymbol {
-    pub symbol: Symbol,
-    pub name: Name,
+pub(crate) struct NamedSymbol {
+    pub(crate) symbol: Symbol,
+    pub(crate) name: Name,
 }
 
 /// A set of names that lie in the string table.
