@@ -4,16 +4,9 @@
 # The program below stands in a copy of the crates, so that the gate has nothing to do with it.
 set -eu
 cd "$(dirname "$0")/.."
-folder=$(mktemp -d)
-trap 'rm -rf "$folder"' EXIT
-cp HANDLES "$folder"
-grep -E '^(cap_base|cap_conc|cap_own|cap_mem):' crates.txt > "$folder/crates.txt"
-printf 'bench: cap_base cap_conc cap_own cap_mem\n' >> "$folder/crates.txt"
-mkdir -p "$folder/crates/bench/src"
-for crate in cap_base cap_conc cap_own cap_mem; do
-    mkdir "$folder/crates/$crate"
-    cp -r "crates/$crate"/{src,specs,proofs} "$folder/crates/$crate"
-done
+. tests/beside.sh
+beside bench "cap_base cap_conc cap_own cap_mem" cap_base cap_conc cap_own cap_mem
+
 cat > "$folder/crates/bench/src/main.rt" <<'CODE'
 #![tactic(auto)]
 

@@ -5,16 +5,9 @@
 set -eu
 cd "$(dirname "$0")/.."
 bench=$PWD/bench
-folder=$(mktemp -d)
-trap 'rm -rf "$folder"' EXIT
-cp HANDLES "$folder"
-grep -E '^(cap_base|cap_elf|cap_chain|cap_scope):' crates.txt > "$folder/crates.txt"
-printf 'bench: cap_base cap_elf cap_scope\n' >> "$folder/crates.txt"
-mkdir -p "$folder/crates/bench/src"
-for crate in cap_base cap_elf cap_chain cap_scope; do
-    mkdir "$folder/crates/$crate"
-    cp -r "crates/$crate"/{src,specs,proofs} "$folder/crates/$crate"
-done
+. tests/beside.sh
+beside bench "cap_base cap_elf cap_scope" cap_base cap_elf cap_chain cap_scope
+
 cat > "$folder/crates/bench/src/main.rt" <<'CODE'
 #![tactic(auto)]
 

@@ -4,17 +4,8 @@
 # A capability can be made from the root of a mapping alone, and a span of addresses can't be let go.
 set -u
 cd "$(dirname "$0")/.." || exit 2
-folder=$(mktemp -d) || exit 2
-trap 'rm -rf "$folder"' EXIT
-cp HANDLES "$folder"
-grep -E '^(cap_conc|cap_own):' crates.txt > "$folder/crates.txt"
-mkdir "$folder/crates"
-for crate in cap_conc cap_own; do
-    mkdir "$folder/crates/$crate"
-    cp -r "crates/$crate"/{src,specs,proofs} "$folder/crates/$crate"
-done
-printf 'pin: cap_conc cap_own\n' >> "$folder/crates.txt"
-mkdir -p "$folder/crates/pin/src"
+. tests/beside.sh
+beside pin "cap_conc cap_own" cap_conc cap_own
 
 failed=0
 

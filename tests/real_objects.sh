@@ -10,8 +10,8 @@ if ! clang --print-targets 2> /dev/null | grep -q riscv64; then
     echo "skipped: no clang for riscv64"
     exit 0
 fi
-folder=$(mktemp -d)
-trap 'rm -rf "$folder"' EXIT
+. tests/beside.sh
+beside reader "cap_base cap_elf" cap_base cap_elf
 
 cat > "$folder/first.c" <<'CODE'
 int counter = 3;
@@ -67,14 +67,6 @@ if [ ${#made[@]} = 0 ]; then
 fi
 cd - > /dev/null
 
-cp HANDLES "$folder"
-grep -E '^(cap_base|cap_elf):' crates.txt > "$folder/crates.txt"
-printf 'reader: cap_base cap_elf\n' >> "$folder/crates.txt"
-mkdir -p "$folder/crates/reader/src"
-for crate in cap_base cap_elf; do
-    mkdir "$folder/crates/$crate"
-    cp -r "crates/$crate"/{src,specs,proofs} "$folder/crates/$crate"
-done
 cat > "$folder/crates/reader/src/main.rt" <<'CODE'
 #![tactic(auto)]
 
