@@ -54,6 +54,7 @@ fn carve_for(space: &mut Space, file: &DynFile) -> Result<(Span, Span), Refusal>
     ensures aligned { IfOk result (λ parts. IsNextMultiple file.now.records.align space.old.next parts.1.base) }
     ensures whole { IfOk result (λ parts. Cover space.old.next (parts.0 ∷ parts.1 ∷ []) space.new.next) }
 {
+    // Asked before the carve: the first free address isn't below the start, so what is carved here can be given back.
     let left = space.limit() - space.next();
     match space.carve(file.align(), file.span()) {
         Ok(parts) => Ok(parts),
