@@ -9,7 +9,7 @@ ghost use Rattle.cap_map.specs.Placing.{CarvesFor, Places, object_memory};
 use cap_base::{NoMemory, Refusal};
 use cap_elf::{DynFile, Segment};
 use cap_mem::Memory;
-use cap_own::{Root, Space, Span};
+use cap_own::{Full, Root, Space, Span};
 use std::alloc::Global;
 
 /// An object in memory, before it is relocated: the pad before it, the root of its capabilities, and its bytes.
@@ -49,19 +49,14 @@ pub fn place(
 
 /// The pad and the body of an object.
 fn carve_for(space: &mut Space, file: &DynFile) -> Result<(Span, Span), Refusal>
-    ensures from { space.old.start ≤ space.old.next }
+    ensures own { IfOk result (λ parts. space.new.start ≤ parts.0.base) }
     ensures carved { CarvesFor file.now.records space.old space.new result }
     ensures aligned { IfOk result (λ parts. IsNextMultiple file.now.records.align space.old.next parts.1.base) }
     ensures whole { IfOk result (λ parts. Cover space.old.next (parts.0 ∷ parts.1 ∷ []) space.new.next) }
 {
-    // Asked before the carve: the first free address isn't below the start, so what is carved here can be given back.
-    let left = space.limit() - space.next();
     match space.carve(file.align(), file.span()) {
         Ok(parts) => Ok(parts),
-        Err(full) => Err(Refusal::Full {
-            asked: full.asked,
-            left,
-        }),
+        Err(Full { asked, left }) => Err(Refusal::Full { asked, left }),
     }
 }
 

@@ -142,6 +142,7 @@ impl Space {
         ensures carved { Carves self.old self.new align len result }
         ensures aligned { IfOk result (λ parts. IsNextMultiple align self.old.next parts.1.base) }
         ensures whole { IfOk result (λ parts. Cover self.old.next (parts.0 ∷ parts.1 ∷ []) self.new.next) }
+        ensures own { IfOk result (λ parts. self.new.start ≤ parts.0.base) }
     {
         let start = self.next.next_multiple_of(align);
         let end = start + len;
@@ -171,9 +172,10 @@ impl Space {
         self.next = base;
     }
 
-    /// Ends a space to which everything was given back.
+    /// Ends a space to which everything was given back: none of its addresses is with anyone else.
     pub fn end(self)
         requires { self.next ≡ self.start }
+        ensures { Cover self.start [] self.next }
     {
         let Space {
             start: _,
