@@ -4,3 +4,13 @@ pub mod Intervals
 pub mod Sound
 pub mod Growing
 pub mod TagLemmas
+pub mod TagCounts
+pub mod Listing
+pub mod Entering
+pub mod TagBytes
+pub mod WordOrder
+pub mod Counts
+pub mod MemoryBytes
+pub mod Sizes
+pub mod ImageOf
+pub mod TwoMemories

@@ -4,14 +4,15 @@ use Rattle.std.proofs.Math.Nat.{zero-div}
 use Rattle.std.specs.Prelude.{slice_index}
 use Rattle.std.proofs.lemmas.List.FromFn.{filter_of_map_range_with_len_more}
 use Rattle.cap_image.specs.Parts.{ImageObject, IsObject, has_tag}
-use Rattle.cap_image.specs.Report.{tagged_below}
+use Rattle.cap_image.specs.Parts.{tagged_below}
 
 -- none
 pub tagged_none : (base : ℕ) (tags : List ℕ) → tagged_below base tags 0 ≡ []
 unfolding tagged_below
 tagged_none base tags = refl
 
-one_more : (base : ℕ) (tags : List ℕ) (n : ℕ) → tagged_below base tags (n + 1) ≡ tagged_below base tags n ++ cond (has_tag tags (16 * n)) ((base + 16 * n) ∷ []) []
+-- one granule more
+pub one_more : (base : ℕ) (tags : List ℕ) (n : ℕ) → tagged_below base tags (n + 1) ≡ tagged_below base tags n ++ cond (has_tag tags (16 * n)) ((base + 16 * n) ∷ []) []
 unfolding tagged_below
 one_more base tags n =
     let offset : base + 16 * n - base ≡ 16 * n = omega arith in

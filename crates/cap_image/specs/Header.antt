@@ -6,7 +6,7 @@ use Rattle.cap_base.specs.Steps.{◌>>=◌, ◌>>◌, refuse, fault}
 use Rattle.cap_base.specs.declared.check.Check.TheVariants.{ImageEnd, ImageMagic, ImageVersion, ImageObjects}
 use Rattle.cap_base.specs.declared.refusal.Fault.{Fault}
 use Rattle.cap_image.specs.declared.header.Version.{Version}
-use Rattle.cap_image.specs.declared.header.Version.TheVariants.{One}
+use Rattle.cap_image.specs.declared.header.Version.TheVariants.{One, Two}
 use Rattle.cap_image.specs.declared.header.Header.{Header}
 
 -- the image must reach up to this place
@@ -15,7 +15,7 @@ reaches bytes place = refuse (not (nat_le place (length bytes))) ImageEnd (lengt
 
 -- the version of this number
 abbrev pub version_of : ℕ → Result Version Fault
-version_of number = if number == 1 then Ok One else Err (fault ImageVersion 8)
+version_of number = if number == 1 then Ok One else if number == 2 then Ok Two else Err (fault ImageVersion 8)
 
 -- the version and the number of objects
 unfoldable pub header_of : List ℕ → Result Header Fault

@@ -1,6 +1,13 @@
 pub mod Parts
 pub mod Header
 pub mod Records
+pub mod Words
 pub mod Bodies
 pub mod Reading
+pub mod Entries
 pub mod Report
+pub mod Writing
+pub mod WordWalk
+pub mod WalkFields
+pub mod MemoryParts
+pub mod ImageLaws

@@ -1,12 +1,11 @@
 -- The report of an image: a line for each object, a line for each tagged granule, and a last line.
-use Rattle.std.specs.Prelude.{ℕ, zero, suc, ◌+◌, ◌-◌, ◌*◌, ◌/◌, ◌%◌, ◌≤◌, Bool, false, ◌==◌, List, [], ◌∷◌, ◌++◌, length, map, filter, flat_map, codes, decimal, if◌then◌else◌}
+use Rattle.std.specs.Prelude.{◌≡◌, ℕ, zero, suc, ◌+◌, ◌-◌, ◌/◌, ◌%◌, ◌≤◌, Bool, false, ◌==◌, List, [], ◌∷◌, ◌++◌, length, find, flat_map, codes, decimal, Option, Some, None, if◌then◌else◌}
 use Rattle.std.specs.Fmt.{digit_glyph}
 use Rattle.cap_base.specs.Field.{number_at}
-use Rattle.std.specs.List.{range_with_len}
 use Rattle.cap_conc.specs.declared.word.Word.{Word}
 use Rattle.cap_conc.specs.declared.word.Fields.{Fields}
 use Rattle.cap_conc.specs.Computed.{fields_of}
-use Rattle.cap_image.specs.Parts.{ImageObject, ImageParts, has_tag}
+use Rattle.cap_image.specs.Parts.{WordRecord, ImageObject, ImageParts, tagged_granules}
 
 -- the lowest digits of a number in base 16, as many as this
 unfoldable pub hex : ℕ → ℕ → List ℕ
@@ -36,23 +35,33 @@ fields_text f =
 abbrev pub word_in : List ℕ → ℕ → Word
 word_in bytes at = record { address = number_at 8 bytes at; meta = number_at 8 bytes (at + 8) }
 
+-- the word record of a granule
+abbrev pub word_of : ImageObject → ℕ → Option WordRecord
+word_of o granule = find (λ w. w.granule == granule) o.words
+
+-- a symbol without a name shows as `-`
+abbrev pub name_text : List ℕ → List ℕ
+name_text [] = codes "-"
+name_text (byte ∷ name) = byte ∷ name
+
+-- what a word record says; an image of version 1 has none
+abbrev pub record_text : Option WordRecord → List ℕ
+record_text None = []
+record_text (Some w) = codes " owner " ++ decimal w.owner ++ codes " symbol " ++ name_text w.name
+
+-- what the word of a granule is made from
+unfoldable pub source_text : ImageObject → ℕ → List ℕ
+source_text o granule = record_text (word_of o granule)
+
 -- the line of a tagged granule
 unfoldable pub cap_line : ImageObject → ℕ → List ℕ
 cap_line o granule =
-    codes "cap 0x" ++ hex 16 granule ++ fields_text (fields_of (word_in o.bytes (granule - o.base))) ++ codes "\n"
+    codes "cap 0x" ++ hex 16 granule ++ fields_text (fields_of (word_in o.bytes (granule - o.base)))
+    ++ source_text o granule ++ codes "\n"
 
--- of so many granules from a base on, those that are tagged, in ascending order
-unfoldable pub tagged_below : ℕ → List ℕ → ℕ → List ℕ
-tagged_below base tags count =
-    filter (λ granule. has_tag tags (granule - base)) (map (λ i. base + 16 * i) (range_with_len 0 count))
-
--- the tagged granules of an object
-abbrev pub tagged_granules : ImageObject → List ℕ
-tagged_granules o = tagged_below o.base o.tags (length o.bytes / 16)
-
--- a granule of 16 bytes lies in this interval
+-- a granule of 16 bytes, one of those that lie in this interval
 abbrev pub IsGranule : ℕ → ℕ → ℕ → Type 0
-IsGranule base size granule = (base ≤ granule) × (granule + 16 ≤ base + size)
+IsGranule base size granule = (base ≤ granule) × (granule + 16 ≤ base + size) × ((granule - base) % 16 ≡ 0)
 
 abbrev pub IsGranuleOf : ImageObject → ℕ → Type 0
 IsGranuleOf o granule = IsGranule o.base (length o.bytes) granule

@@ -5,7 +5,7 @@ ghost use Rattle.cap_image.specs.Header.{reaches, version_of, header_of};
 
 use cap_base::{Check, Fault, is_inside, refuse, u32_in};
 
-const MAGIC: &[u8] = b"PURECAPI";
+pub(crate) const MAGIC: &[u8] = b"PURECAPI";
 
 const MAX_OBJECTS: u32 = 256;
 
@@ -14,6 +14,8 @@ const MAX_OBJECTS: u32 = 256;
 pub enum Version {
     /// Bytes and tags.
     One,
+    /// Bytes, tags, and a record for each tagged word.
+    Two,
 }
 
 /// The version of an image, and how many objects it has.
@@ -44,6 +46,7 @@ fn version_numbered(number: u32) -> Result<Version, Fault>
 {
     match number {
         1 => Ok(Version::One),
+        2 => Ok(Version::Two),
         _ => Err(Fault {
             check: Check::ImageVersion,
             at: 8,

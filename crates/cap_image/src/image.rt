@@ -10,6 +10,7 @@ use crate::bodies::{Body, read_bodies};
 use crate::header::{Version, read_header};
 use crate::records::{piece, read_records};
 use crate::tags::has_tag;
+use crate::words::WordNote;
 use cap_base::{Check, Refusal, Stop, refuse};
 use std::alloc::Global;
 use std::marker::Model;
@@ -37,7 +38,7 @@ impl Model for Image {
 
 impl Image {
     ghost use Rattle.std.specs.Prelude.{◌≡◌, ◌<◌, ◌==◌, length, slice_index_or};
-    ghost use Rattle.cap_image.specs.Parts.{IsObject, no_object, tag_in};
+    ghost use Rattle.cap_image.specs.Parts.{IsObject, IsWord, no_object, no_word, tag_in};
 
     /// The version of the image's format.
     pub fn version(&self) -> Version
@@ -83,7 +84,7 @@ impl Image {
         requires { i < length self.now.objects }
         ensures { result.now ≡ (slice_index_or self.now.objects i no_object).name }
     {
-        let body = self.bodies[i as usize];
+        let body = &self.bodies[i as usize];
         piece(&self.bytes, body.of.name_at, body.of.name_len)
     }
 
@@ -92,7 +93,7 @@ impl Image {
         requires { i < length self.now.objects }
         ensures { result.now ≡ (slice_index_or self.now.objects i no_object).bytes }
     {
-        let body = self.bodies[i as usize];
+        let body = &self.bodies[i as usize];
         piece(&self.bytes, body.bytes_at, body.of.size as usize)
     }
 
@@ -101,9 +102,42 @@ impl Image {
         requires { i < length self.now.objects }
         ensures { result.now ≡ (slice_index_or self.now.objects i no_object).tags }
     {
-        let body = self.bodies[i as usize];
+        let body = &self.bodies[i as usize];
         let size = body.of.size as usize;
         piece(&self.bytes, body.bytes_at + size, size / 128)
+    }
+
+    /// How many word records object `i` has: one for each tagged granule, or none in version 1.
+    pub fn words_len(&self, i: u32) -> u32
+        requires { i < length self.now.objects }
+        ensures { result ≡ length (slice_index_or self.now.objects i no_object).words }
+    {
+        self.bodies[i as usize].words.len() as u32
+    }
+
+    /// Word record `k` of object `i`. They stand in ascending order of owners.
+    pub fn word(&self, i: u32, k: u32) -> WordNote
+        requires object { i < length self.now.objects }
+        requires word { k < length (slice_index_or self.now.objects i no_object).words }
+        ensures granule { result.granule ≡ (slice_index_or (slice_index_or self.now.objects i no_object).words k no_word).granule }
+        ensures owner { result.owner ≡ (slice_index_or (slice_index_or self.now.objects i no_object).words k no_word).owner }
+        ensures sound { IsWord (length self.now.objects) (slice_index_or self.now.objects i no_object).base (length (slice_index_or self.now.objects i no_object).bytes) (slice_index_or self.now.objects i no_object).tags (slice_index_or (slice_index_or self.now.objects i no_object).words k no_word) }
+    {
+        let place = self.bodies[i as usize].words[k as usize];
+        WordNote {
+            granule: place.granule,
+            owner: place.owner,
+        }
+    }
+
+    /// The name of the symbol that word `k` of object `i` is made from; it may be empty.
+    pub fn word_name(&self, i: u32, k: u32) -> &[u8]
+        requires object { i < length self.now.objects }
+        requires word { k < length (slice_index_or self.now.objects i no_object).words }
+        ensures { result.now ≡ (slice_index_or (slice_index_or self.now.objects i no_object).words k no_word).name }
+    {
+        let place = self.bodies[i as usize].words[k as usize];
+        piece(&self.bytes, place.name_at, usize::from(place.name_len))
     }
 
     /// The tag of the granule that holds the address; false outside the mappings.
@@ -152,7 +186,14 @@ fn read_parts(alloc: Global, bytes: Vec<u8>) -> Result<Image, Stop>
 {
     let header = read_header(&bytes)?;
     let records = read_records(alloc, &bytes, header.count)?;
-    let bodies = read_bodies(alloc, header.version, &bytes, &records.items, records.at)?;
+    let bodies = read_bodies(
+        alloc,
+        header.version,
+        &bytes,
+        header.count,
+        &records.items,
+        records.at,
+    )?;
     refuse(bodies.at < bytes.len(), Check::ImageTail, bodies.at as u64)?;
     Ok(Image {
         version: header.version,

@@ -1,11 +1,13 @@
 //! The lines of a report.
 
-ghost use Rattle.std.specs.Prelude.{◌≡◌, ◌++◌, ◌+◌, ◌-◌, ◌<◌, ◌≤◌, OnOk, length, slice_index_or};
+ghost use Rattle.std.specs.Prelude.{◌≡◌, ◌++◌, ◌+◌, ◌-◌, ◌<◌, ◌≤◌, OnOk, Some, length, slice_index_or};
 ghost use Rattle.cap_conc.specs.Computed.{fields_of};
-ghost use Rattle.cap_image.specs.Parts.{no_object};
-ghost use Rattle.cap_image.specs.Report.{hex, object_line, cap_line, fields_text, seal_text, flag_text as flag_text_of, last_line, word_in as word_in_of, IsGranuleOf};
+ghost use Rattle.cap_image.specs.Parts.{no_object, no_word};
+ghost use Rattle.cap_image.specs.Report.{hex, object_line, cap_line, fields_text, seal_text, flag_text as flag_text_of, last_line, name_text as name_text_of, record_text, source_text, word_in as word_in_of, IsGranuleOf};
+ghost use Rattle.cap_image.specs.Entries.{numbered, IsNumber, AreEntries};
 
 use crate::digits::{push_decimal, push_hex};
+use crate::entries::entry_of;
 use crate::image::Image;
 use cap_base::{NoMemory, u64_in};
 use cap_conc::{Fields, Word, decode};
@@ -35,18 +37,71 @@ pub(crate) fn push_cap_line(
     text: &mut Vec<u8>,
     image: &Image,
     i: u32,
+    entries: &[Option<u32>],
     granule: u64,
 ) -> Result<(), NoMemory>
     requires object { i < length image.now.objects }
     requires granule { IsGranuleOf (slice_index_or image.now.objects i no_object) granule }
+    requires entries { AreEntries (slice_index_or image.now.objects i no_object) 0 entries.now }
     ensures value { OnOk result (text.new.items ≡ text.old.items ++ cap_line (slice_index_or image.now.objects i no_object) granule) }
     ensures longer { OnOk result (length text.old.items < length text.new.items) }
 {
     let word = word_at(image, i, granule);
     push_number(text, b"cap 0x", u128::from(granule), 16)?;
     push_word(text, word)?;
+    push_source(text, image, i, entries, granule)?;
     text.extend_from_slice(b"\n")?;
     Ok(())
+}
+
+/// Appends what the word of a granule of object `i` is made from, where a word record says so.
+#[tactic(auto, unfolding(crate::specs::Report::source_text))]
+fn push_source(
+    text: &mut Vec<u8>,
+    image: &Image,
+    i: u32,
+    entries: &[Option<u32>],
+    granule: u64,
+) -> Result<(), NoMemory>
+    requires object { i < length image.now.objects }
+    requires granule { IsGranuleOf (slice_index_or image.now.objects i no_object) granule }
+    requires entries { AreEntries (slice_index_or image.now.objects i no_object) 0 entries.now }
+    ensures { OnOk result (text.new.items ≡ text.old.items ++ source_text (slice_index_or image.now.objects i no_object) granule) }
+{
+    let entry = entry_of(entries, image, i, granule);
+    push_entry(text, image, i, entry)
+}
+
+/// Appends what the word record of this number says, if there is one.
+fn push_entry(text: &mut Vec<u8>, image: &Image, i: u32, entry: Option<u32>) -> Result<(), NoMemory>
+    requires object { i < length image.now.objects }
+    requires entry { IsNumber (slice_index_or image.now.objects i no_object) entry }
+    ensures { OnOk result (text.new.items ≡ text.old.items ++ record_text (numbered (slice_index_or image.now.objects i no_object) entry)) }
+{
+    match entry {
+        None => Ok(()),
+        Some(k) => push_record(text, image, i, k),
+    }
+}
+
+/// Appends what word record `k` of object `i` says.
+fn push_record(text: &mut Vec<u8>, image: &Image, i: u32, k: u32) -> Result<(), NoMemory>
+    requires object { i < length image.now.objects }
+    requires word { k < length (slice_index_or image.now.objects i no_object).words }
+    ensures { OnOk result (text.new.items ≡ text.old.items ++ record_text (Some (slice_index_or (slice_index_or image.now.objects i no_object).words k no_word))) }
+{
+    text.extend_from_slice(b" owner ")?;
+    push_decimal(text, u64::from(image.word(i, k).owner))?;
+    text.extend_from_slice(b" symbol ")?;
+    text.extend_from_slice(name_text(image.word_name(i, k)))?;
+    Ok(())
+}
+
+/// The name of a symbol, or `-` where it has none.
+fn name_text(name: &[u8]) -> &[u8]
+    ensures { result.now ≡ name_text_of name.now }
+{
+    if name.is_empty() { b"-" } else { name }
 }
 
 /// Appends the last line, with the numbers of objects and of tagged words.

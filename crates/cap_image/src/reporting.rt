@@ -1,9 +1,11 @@
 //! The report of an image.
 
 ghost use Rattle.std.specs.Prelude.{◌≡◌, ◌++◌, ◌+◌, ◌<◌, ◌≤◌, IfOk, OnOk, All, flat_map, length, slice_index_or};
-ghost use Rattle.cap_image.specs.Parts.{no_object};
-ghost use Rattle.cap_image.specs.Report.{cap_line, cap_lines, tagged_granules, report_of, IsGranuleOf};
+ghost use Rattle.cap_image.specs.Parts.{no_object, tagged_granules};
+ghost use Rattle.cap_image.specs.Report.{cap_line, cap_lines, report_of, IsGranuleOf};
+ghost use Rattle.cap_image.specs.Entries.{AreEntries};
 
+use crate::entries::entries_of;
 use crate::image::Image;
 use crate::lines::{push_cap_line, push_last_line, push_object_line};
 use crate::tags::tagged;
@@ -41,20 +43,28 @@ fn push_cap_lines(
     ensures longer { IfOk result (λ n. length text.old.items + n ≤ length text.new.items) }
 {
     let granules = tagged_in(alloc, image, i)?;
-    push_lines(text, image, i, &granules)?;
+    let entries = entries_of(alloc, image, i)?;
+    push_lines(text, image, i, &entries, &granules)?;
     Ok(granules.len())
 }
 
 /// Appends the lines of granules of object `i`.
 #[tactic(auto, using(crate::proofs::Growing::flat_map_more))]
-fn push_lines(text: &mut Vec<u8>, image: &Image, i: u32, granules: &[u64]) -> Result<(), NoMemory>
+fn push_lines(
+    text: &mut Vec<u8>,
+    image: &Image,
+    i: u32,
+    entries: &[Option<u32>],
+    granules: &[u64],
+) -> Result<(), NoMemory>
     requires object { i < length image.now.objects }
+    requires entries { AreEntries (slice_index_or image.now.objects i no_object) 0 entries.now }
     requires inside { All (IsGranuleOf (slice_index_or image.now.objects i no_object)) granules.now }
     ensures lines { OnOk result (text.new.items ≡ text.old.items ++ flat_map (cap_line (slice_index_or image.now.objects i no_object)) granules.now) }
     ensures longer { OnOk result (length text.old.items + length granules.now ≤ length text.new.items) }
 {
     for granule in granules {
-        push_cap_line(text, image, i, *granule)?;
+        push_cap_line(text, image, i, entries, *granule)?;
     }
     Ok(())
 }

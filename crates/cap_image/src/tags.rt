@@ -1,8 +1,9 @@
 //! The tags of an object.
 
 ghost use Rattle.std.specs.Prelude.{◌≡◌, ◌+◌, ◌*◌, ◌/◌, ◌<◌, ◌≤◌, ◌^◌, All, OnOk, IfOk, length};
-ghost use Rattle.cap_image.specs.Parts.{has_tag as has_tag_of};
-ghost use Rattle.cap_image.specs.Report.{tagged_below, IsGranule};
+ghost use Rattle.cap_image.specs.Parts.{has_tag as has_tag_of, tagged_below};
+ghost use Rattle.cap_image.specs.Words.{tag_count};
+ghost use Rattle.cap_image.specs.Report.{IsGranule};
 
 use cap_base::NoMemory;
 use std::alloc::Global;
@@ -14,6 +15,18 @@ pub(crate) fn has_tag(tags: &[u8], offset: u64) -> bool
 {
     let byte = tags[(offset / 128) as usize];
     (byte >> (offset / 16 % 8)) & 1 == 1
+}
+
+/// How many granules are tagged.
+pub(crate) fn count_tags(tags: &[u8]) -> usize
+    requires { length tags.now < 2 ^ 32 }
+    ensures { result ≡ tag_count tags.now }
+{
+    let mut count = 0;
+    for byte in tags {
+        count += byte.count_ones() as usize;
+    }
+    count
 }
 
 /// The tagged granules of an object that is mapped from a base on.

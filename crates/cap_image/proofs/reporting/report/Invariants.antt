@@ -1,6 +1,7 @@
 use Rattle.std.proofs.Common.{◌≡◌, ◌≤◌, ◌++◌, length, take}
 use Rattle.std.specs.List.{flat_map}
-use Rattle.cap_image.specs.Report.{object_line, cap_lines, tagged_granules}
+use Rattle.cap_image.specs.Parts.{tagged_granules}
+use Rattle.cap_image.specs.Report.{object_line, cap_lines}
 use Rattle.cap_image.proofs.reporting.report.Given as goal
 
 abbrev pub invariant-loop-i : goal.invariant-loop-i

@@ -1,6 +1,7 @@
 use Rattle.std.proofs.Common.{◌≡◌, ◌*◌, length}
 use Rattle.std.specs.Prelude.{All}
-use Rattle.cap_image.specs.Report.{tagged_below, IsGranule}
+use Rattle.cap_image.specs.Parts.{tagged_below}
+use Rattle.cap_image.specs.Report.{IsGranule}
 use Rattle.cap_image.proofs.tags.tagged.Given as goal
 
 abbrev pub invariant-loop-j : goal.invariant-loop-j
