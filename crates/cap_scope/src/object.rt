@@ -95,6 +95,13 @@ impl Object {
         &self.file
     }
 
+    /// The names of its symbols, each defined where its symbol can be chosen.
+    pub fn names(&self, alloc: Global) -> Result<NameList, NoMemory>
+        ensures { IfOk result (λ names. names ≡ (hash_table self.now.records).names) }
+    {
+        names_of(alloc, &self.file)
+    }
+
     /// How many entries of its chain the look-up of a name passes.
     pub(crate) fn walk(&self, name: &[u8]) -> u32
         ensures { result ≡ walk_of (hash_table self.now.records) name.now }

@@ -98,6 +98,10 @@ fn names_are_chosen_by_chains(rt: HostRuntime) -> Result<(), Fail> {
     );
     expect(&rt, choose(&objects, &[0], b"c", rule), Choice::None, 2);
     expect(&rt, choose(&objects, &[0, 0], b"c", rule), Choice::None, 4);
+    let names = objects[0].names(alloc)?;
+    assert_eq!(rt; names.len(), 3);
+    assert_eq!(rt; names.name(2), b"b".as_slice());
+    assert!(rt; names.defined(2) && !names.defined(0));
     Ok(())
 }
 
