@@ -1,0 +1,15 @@
+pub mod Holding
+pub mod Hulls
+pub mod Taken
+pub mod Refusing
+pub mod Wanted
+pub mod Tells
+pub mod Stored
+pub mod Setting
+pub mod Binding
+pub mod Planned
+pub mod Sound
+pub mod Adds
+pub mod Stores
+pub mod Laws
+pub mod Noted
