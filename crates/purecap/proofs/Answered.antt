@@ -1,15 +1,16 @@
 -- A run that reads its files gives the answer that its words and files define, or a part of it.
-use Rattle.std.proofs.Common.{◌≡◌, ◌≢◌, ℕ, true, List, [], Option, Some, None, Result, Ok, Err, refl, sym, subst, ap, inl, inr, ◌⊎◌, append-nil}
+use Rattle.std.proofs.Common.{◌≡◌, ◌≢◌, ℕ, List, [], codes, Option, Some, None, IfSome, Result, Ok, Err, refl, sym, ap, subst, ◌∙◌, inl, inr, ◌⊎◌, append-nil}
 use Rattle.std.specs.Io.KnownBytes.{Appends}
-use Rattle.cap_base.specs.Outside.{Store, file_in}
+use Rattle.cap_base.specs.Outside.{Store, file_in, AppendsFront, with_file}
+use Rattle.cap_base.specs.SaveFile.{WritesFront}
+use Rattle.cap_mem.specs.Tagged.{TaggedMemory}
 use Rattle.purecap.specs.declared.faults.Failure.{Failure}
 use Rattle.purecap.specs.declared.faults.Failure.TheVariants.{WriteFault}
-use Rattle.purecap.specs.Faults.{status_of, line_of}
-use Rattle.purecap.specs.Words.{Command, Show, command_of}
-use Rattle.purecap.specs.Answer.{answer_of, command_answer, shown}
-use Rattle.purecap.specs.Run.{Count, Stream, IsStill, IsWritten, IsCut, IsKept, HasRisen, Says, IsRefused, EndsAs, Ends, EndSays, end_status, path_of, Runs, Gave, IsHalf, Answers}
-use Rattle.purecap.proofs.Ways.{or_fails, is_of_words, words_defined, Way, Done, Unread, CutShort, Starved, Refused, way_of}
-use Rattle.purecap.proofs.Causes.{words_fail}
+use Rattle.purecap.specs.Words.{Command, Show, Load, command_of}
+use Rattle.purecap.specs.Answer.{Product, Printed, Saved, Stop, stop_at, Story, show_story, command_story, answer_by, answer_of, answer_to}
+use Rattle.purecap.specs.Run.{Stream, Disk, IsStill, IsWritten, IsGiven, IsGivenPart, EndsAs, HasRisen, Ends, end_status, Runs, Gave, IsHalf, Answers, target_of, Says}
+use Rattle.purecap.specs.Answer as answer
+use Rattle.purecap.proofs.Ways.{Way, Done, Unread, CutShort, Starved, Refused, way_of}
 
 nothing_appended : (old new : Option (List ℕ)) → new ≡ old → Appends old new []
 nothing_appended None new e = tt
@@ -19,57 +20,90 @@ nothing_appended (Some xs) (Some ys) e = subst (λ (o : Option (List ℕ)). Appe
 nothing_written : (out : Stream) → IsStill out → IsWritten out []
 nothing_written out still = record { appended = nothing_appended out.old out.new still.bytes; count = still.count }
 
-module _ (reads : Count) (out err : Stream) (path : List ℕ) (end : Result Unit Failure) where
-  gave_done : (answer : Result (List ℕ) Failure) (bytes : List ℕ) → end ≡ Ok tt → answer ≡ Ok bytes → IsWritten out bytes → EndSays err path end
-      → Gave (answer_of path answer) out err (end_status end)
-  gave_done answer bytes e is written says =
-      let still = subst (EndSays err path) e says in
-      subst (λ (a : Result (List ℕ) Failure). Gave (answer_of path a) out err (end_status end)) (sym is)
-      (record { is_status = ap end_status e; written = written; says = inl (nothing_written err still) })
+nothing_in_front : (out : Stream) → IsStill out → AppendsFront out.old out.new []
+nothing_in_front out still = ([], [], refl, nothing_appended out.old out.new still.bytes)
 
-  gave_refused : (answer : Result (List ℕ) Failure) (failure : Failure) → end ≡ Err failure → IsRefused answer failure reads out → EndSays err path end
-      → Gave (answer_of path answer) out err (end_status end)
-  gave_refused answer failure e refused says =
-      let line = subst (EndSays err path) e says in
-      subst (λ (a : Result (List ℕ) Failure). Gave (answer_of path a) out err (end_status end)) (sym refused.defined)
-      (record { is_status = ap end_status e; written = nothing_written out refused.still; says = line })
+module _ (store : Store) (disk : Disk) (told : disk.old ≡ Some store) (out err : Stream) (kept : List TaggedMemory) (end : Result Unit Failure) (story : Story) where
+  gave_product : (product : Product) → end_status end ≡ 0 → IsGiven product disk out kept → Says err (answer.note_lines story.notes)
+      → Gave (answer_by story.notes (Ok product)) store disk out err kept (end_status end)
+  gave_product (Printed output) is given says =
+      record { is_status = is; written = given.1; says = says; files = given.0.files ∙ told; writes = given.0.count; memories = given.2 }
+  gave_product (Saved name bytes memories) is given says = record {
+    is_status = is;
+    written = nothing_written out given.1;
+    says = says;
+    files = (subst (λ (o : Option Store). IfSome o (λ s. (disk.new ≡ Some (with_file s name bytes)) × (disk.writing ≡ None))) told given.0.files).0;
+    writes = given.0.count;
+    memories = given.2;
+  }
 
-  gave_half : (answer : Result (List ℕ) Failure) (bytes : List ℕ) → end ≡ Err WriteFault → answer ≡ Ok bytes → IsCut out bytes → EndSays err path end
-      → IsHalf (answer_of path answer) out err (end_status end)
-  gave_half answer bytes e is cut says =
-      let line = subst (EndSays err path) e says in
-      subst (λ (a : Result (List ℕ) Failure). IsHalf (answer_of path a) out err (end_status end)) (sym is)
-      (record { is_status = ap end_status e; succeeds = refl; written = cut; says = line })
+  half_product : (product : Product) → end_status end ≡ 11 → IsGivenPart product disk out kept → Says err (answer.lines_before story.notes (target_of product) WriteFault)
+      → IsHalf (answer_by story.notes (Ok product)) store disk out err kept (end_status end)
+  half_product (Printed output) is given says = record {
+    is_status = is;
+    succeeds = refl;
+    rose = inl given.1.rose;
+    front = given.1.front;
+    files = given.0.files ∙ told;
+    writing = inl given.0.writing;
+    path = codes "-";
+    says = says;
+    memories = given.2;
+  }
+  half_product (Saved name bytes memories) is given says =
+      let files = subst (λ (o : Option Store). IfSome o (λ s. (disk.new ≡ Some s) × WritesFront disk.writing name bytes)) told given.0.files in
+      record {
+        is_status = is;
+        succeeds = refl;
+        rose = inr given.0.rose;
+        front = nothing_in_front out given.1;
+        files = files.0;
+        writing = inr (name, bytes, refl, files.1);
+        path = name;
+        says = says;
+        memories = given.2;
+      }
 
-  gave : (answer : Result (List ℕ) Failure) → Way answer reads out end → EndSays err path end → (HasRisen reads → ⊥) → end_status end ≢ 12
-      → Gave (answer_of path answer) out err (end_status end) ⊎ IsHalf (answer_of path answer) out err (end_status end)
-  gave answer (Done e d) says read memory = inl (gave_done answer d.bytes e d.defined d.written says)
-  gave answer (Unread e u) says read memory = absurd (read u.rose)
-  gave answer (CutShort e c) says read memory = inr (gave_half answer c.bytes e c.defined c.written says)
-  gave answer (Starved e s) says read memory = absurd (memory (ap end_status e))
-  gave answer (Refused failure e d r) says read memory = inl (gave_refused answer failure e r says)
+  gave : Way story disk out err kept end → (HasRisen disk.reads → ⊥) → end_status end ≢ 12
+      → Gave (answer_of story) store disk out err kept (end_status end) ⊎ IsHalf (answer_of story) store disk out err kept (end_status end)
+  gave (Done e d) read memory =
+      inl (subst (λ (given : Result Product Stop). Gave (answer_by story.notes given) store disk out err kept (end_status end)) (sym d.defined) (gave_product d.product (ap end_status e) d.given d.says))
+  gave (Unread e u) read memory = absurd (read u.rose)
+  gave (CutShort e c) read memory =
+      inr (subst (λ (given : Result Product Stop). IsHalf (answer_by story.notes given) store disk out err kept (end_status end)) (sym c.defined) (half_product c.product (ap end_status e) c.given c.says))
+  gave (Starved e s) read memory = absurd (memory (ap end_status e))
+  gave (Refused failure e own r) read memory =
+      inl (subst (λ (given : Result Product Stop). Gave (answer_by story.notes given) store disk out err kept (end_status end)) (sym r.defined)
+      (record {
+        is_status = ap end_status e;
+        written = nothing_written out r.nothing.still;
+        says = r.says;
+        files = r.nothing.untouched.files ∙ told;
+        writes = r.nothing.untouched.count;
+        memories = r.nothing.none;
+      }))
 
-command_gave : (command : Result Command Failure) (store : Store) (reads : Count) (out err : Stream) (end : Result Unit Failure) → or_fails is_of_words command ≡ true
-    → Ends command (Some store) reads out end → EndSays err (path_of command) end → (HasRisen reads → ⊥) → end_status end ≢ 12
-    → Gave (command_answer command store) out err (end_status end) ⊎ IsHalf (command_answer command store) out err (end_status end)
-command_gave (Ok (Show image)) store reads out err end words ends says =
-    let there = subst (λ (file : Option (List ℕ)). EndsAs (shown file) reads out end) ends.is_file ends.ends in
-    gave reads out err image end (shown (file_in store image)) (way_of (shown (file_in store image)) reads out end there) says
-command_gave (Err failure) store reads out err end words ends says =
-    gave reads out err [] end (Err failure) (Refused failure ends.0 (words_defined failure words) (record { defined = refl; still = ends.1; reads_kept = ends.2 })) says
+command_gave : (command : Result Command Failure) (store : Store) (disk : Disk) → disk.old ≡ Some store → (out err : Stream) (kept : List TaggedMemory) (end : Result Unit Failure)
+    → Ends command disk out err kept end → (HasRisen disk.reads → ⊥) → end_status end ≢ 12
+    → Gave (answer_of (command_story command store)) store disk out err kept (end_status end) ⊎ IsHalf (answer_of (command_story command store)) store disk out err kept (end_status end)
+command_gave (Ok (Show image)) store disk told out err kept end ends =
+    let is = subst (λ (o : Option Store). IfSome o (λ s. ends.file ≡ file_in s image)) told ends.is_file in
+    let there = subst (λ (file : Option (List ℕ)). EndsAs (show_story image file) disk out err kept end) is ends.ends in
+    gave store disk told out err kept end (show_story image (file_in store image)) (way_of _ disk out err kept end there)
+command_gave (Ok (Load words)) store disk told out err kept end ends =
+    let is = subst (λ (o : Option Store). IfSome o (λ s. ends.story ≡ answer.load_story words s)) told ends.is_story in
+    let there = subst (λ (story : Story). EndsAs story disk out err kept end) is ends.ends in
+    gave store disk told out err kept end (answer.load_story words store) (way_of _ disk out err kept end there)
+command_gave (Err failure) store disk told out err kept end ends =
+    gave store disk told out err kept end (answer.stopped [] failure) (way_of _ disk out err kept end ends.ends)
 
-pub answered : (words : List (List ℕ)) (told : Option Store) (reads : Count) (out err : Stream) (status : ℕ) → Runs words told reads out err status → Answers words told reads out err status
-answered words None reads out err status run = tt
-answered words (Some store) reads out err status run =
-    subst (λ (s : ℕ). Answers words (Some store) reads out err s) (sym run.is_status)
-    (command_gave (command_of words) store reads out err run.end (words_fail words) run.ends run.says)
+answered_by : (words : List (List ℕ)) (disk : Disk) (out err : Stream) (kept : List TaggedMemory) (end : Result Unit Failure) → Ends (command_of words) disk out err kept end
+    → (told : Option Store) → disk.old ≡ told
+    → IfSome told (λ store. (HasRisen disk.reads → ⊥) → end_status end ≢ 12
+    → Gave (answer_to words store) store disk out err kept (end_status end) ⊎ IsHalf (answer_to words store) store disk out err kept (end_status end))
+answered_by words disk out err kept end ends None is = tt
+answered_by words disk out err kept end ends (Some store) is = command_gave (command_of words) store disk is out err kept end ends
 
--- a run of words that are no command
-pub runs_of_words : (words : List (List ℕ)) (told : Option Store) (reads : Count) (out err : Stream) (status : ℕ) (failure : Failure) → command_of words ≡ Err failure → IsKept reads
-    → IsStill out → status ≡ status_of failure → Says err (line_of [] failure) → Runs words told reads out err status
-runs_of_words words told reads out err status failure is kept still status_is says = record {
-  end = Err failure;
-  is_status = status_is;
-  ends = subst (λ (c : Result Command Failure). Ends c told reads out (Err failure)) (sym is) (refl, still, kept);
-  says = subst (λ (c : Result Command Failure). EndSays err (path_of c) (Err failure)) (sym is) says;
-}
+pub answered : (words : List (List ℕ)) (disk : Disk) (out err : Stream) (kept : List TaggedMemory) (status : ℕ) → Runs words disk out err kept status → Answers words disk out err kept status
+answered words disk out err kept status ran =
+    subst (λ (s : ℕ). Answers words disk out err kept s) (sym ran.is_status) (answered_by words disk out err kept ran.end ran.ends disk.old refl)

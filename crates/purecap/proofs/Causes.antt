@@ -1,216 +1,293 @@
 -- The causes of the answers of a run.
-use Rattle.std.proofs.Common.{◌≡◌, ◌≢◌, ◌<◌, ◌⊎◌, ℕ, Bool, true, false, cond, not, nat_lt, List, [], ◌∷◌, length, codes, Option, Some, None, Result, Ok, Err, refl, sym, ap, subst, ◌∙◌, inl, inr, arith}
-use Rattle.std.specs.Str.{bytes_eq}
+use Rattle.std.proofs.Common.{◌≡◌, ◌≢◌, ◌<◌, ◌⊎◌, ℕ, Bool, true, false, cond, List, [], Option, Some, None, Result, Ok, Err, refl, sym, ap, subst, ◌∙◌, inl, inr, ⊎_elim, arith}
 use Rattle.cap_base.specs.Check.{number_of, class_of}
-use Rattle.cap_base.specs.Outside.{Store}
-use Rattle.cap_base.specs.declared.check.Check.TheVariants.{FileSize, PathLength}
+use Rattle.cap_base.specs.declared.check.Check.TheVariants.{FileSize}
 use Rattle.cap_base.specs.declared.check.Class.{Class}
 use Rattle.cap_base.specs.declared.check.Class.TheVariants as classes
 use Rattle.cap_base.specs.declared.refusal.Fault.{Fault}
+use Rattle.cap_mem.specs.Tagged.{TaggedMemory}
 use Rattle.cap_image.specs.Parts.{ImageParts}
 use Rattle.cap_image.specs.Reading.{read_image}
+use Rattle.cap_session.specs.declared.refusal.OpenCause.{OpenCause}
+use Rattle.cap_session.specs.declared.refusal.OpenCause.TheVariants as causes
 use Rattle.purecap.specs.declared.faults.Failure.{Failure}
-use Rattle.purecap.specs.declared.faults.Failure.TheVariants.{Usage, NoFile, Malformed, Unsupported, Limit, ReadFault, WriteFault, NoMemory, NotBuilt}
-use Rattle.purecap.specs.Faults.{status_of}
-use Rattle.purecap.specs.Words.{Command, Show, is_option, is_path, ends_options, show_image, show_operand, show_pair, show_words, command_of}
-use Rattle.purecap.specs.Answer.{failure_by, report_in, shown}
-use Rattle.purecap.specs.Run.{Count, Stream, IsStill, HasRisen, Ends, EndSays, end_status, path_of, Runs, HasCauses}
-use Rattle.purecap.proofs.Ways.{is_defined, is_of_words, is_of_file, or_fails, words_defined, Way, Done, Unread, CutShort, Starved, Refused, way_of}
+use Rattle.purecap.specs.declared.faults.Failure.TheVariants.{Usage, Limit, NoMemory, NotBuilt}
+use Rattle.purecap.specs.Faults.{status_of, failure_of}
+use Rattle.purecap.specs.Words.{Command, Show, Load, LoadWords, command_of}
+use Rattle.purecap.specs.Answer.{failure_by, report_in, shown, Product, Printed, Saved, Stop, stop_at, Story, stopped, printed, show_story, note_lines}
+use Rattle.purecap.specs.Run.{Stream, Disk, IsStill, IsKept, HasRisen, IsUntouched, IsNothing, IsGiven, IsGivenPart, IsCalm, IsLoaded, Says, Ends, end_status, Runs, output_count, IsAside, HasCauses}
+use Rattle.purecap.proofs.Ways.{IsRefusal, Way, Done, Unread, CutShort, Starved, Refused, way_of, refusal_2, refusal_13, status_usage, status_not_built}
 
--- words fail as words do
-either : {A : Type 0} (test : Failure → Bool) (b : Bool) (x y : Result A Failure) → or_fails test x ≡ true → or_fails test y ≡ true → or_fails test (cond b x y) ≡ true
-either test true x y xs ys = xs
-either test false x y xs ys = ys
+-- no file and no call gives this failure
+abbrev of_no_file : Failure → Bool
+of_no_file Usage = true
+of_no_file NotBuilt = true
+of_no_file failure = false
 
-image_fails : (image : List ℕ) → or_fails is_of_words (show_image image) ≡ true
-image_fails image =
-    either is_of_words (not (is_path image)) (Err Usage) _ refl (either is_of_words (nat_lt 255 (length image)) (Err (Limit (number_of PathLength))) (Ok (Show image)) refl refl)
+-- a file gives none that the words alone give
+abbrev fails_so : {A : Type 0} → Result A Failure → Bool
+fails_so (Ok a) = false
+fails_so (Err failure) = of_no_file failure
 
-operand_fails : (word : List ℕ) → or_fails is_of_words (show_operand word) ≡ true
-operand_fails word = either is_of_words (is_option word) (Err Usage) (show_image word) refl (image_fails word)
+either : {A : Type 0} (b : Bool) (x y : Result A Failure) → fails_so x ≡ false → fails_so y ≡ false → fails_so (cond b x y) ≡ false
+either true x y xs ys = xs
+either false x y xs ys = ys
 
-pair_fails : (first second : List ℕ) → or_fails is_of_words (show_pair first second) ≡ true
-pair_fails first second =
-    either is_of_words (ends_options first) (show_image second) _ (image_fails second) (either is_of_words (ends_options second) (show_operand first) (Err Usage) (operand_fails first) refl)
-
-show_fails : (words : List (List ℕ)) → or_fails is_of_words (show_words words) ≡ true
-show_fails [] = refl
-show_fails (image ∷ []) = operand_fails image
-show_fails (first ∷ second ∷ []) = pair_fails first second
-show_fails (first ∷ second ∷ third ∷ words) = refl
-
-pub words_fail : (words : List (List ℕ)) → or_fails is_of_words (command_of words) ≡ true
-unfolding command_of
-words_fail [] = refl
-words_fail (command ∷ words) = either is_of_words (bytes_eq command (codes "show")) (show_words words) (Err NotBuilt) (show_fails words) refl
-
--- a file fails as files do
-class_fails : (class : Class) (check at : ℕ) → is_of_file (failure_by class check at) ≡ true
+class_fails : (class : Class) (check at : ℕ) → of_no_file (failure_by class check at) ≡ false
 class_fails classes.Malformed check at = refl
 class_fails classes.Unsupported check at = refl
 class_fails classes.Limit check at = refl
 
-report_fails : (image : Result ImageParts Fault) → or_fails is_of_file (report_in image) ≡ true
+report_fails : (image : Result ImageParts Fault) → fails_so (report_in image) ≡ false
 report_fails (Ok image) = refl
 report_fails (Err fault) = class_fails (class_of fault.check) (number_of fault.check) fault.at
 
-shown_fails : (file : Option (List ℕ)) → or_fails is_of_file (shown file) ≡ true
+shown_fails : (file : Option (List ℕ)) → fails_so (shown file) ≡ false
 shown_fails None = refl
-shown_fails (Some bytes) =
-    either is_of_file _ (Err (Limit (number_of FileSize))) (report_in (read_image bytes)) refl (report_fails (read_image bytes))
+shown_fails (Some bytes) = either _ (Err (Limit (number_of FileSize))) (report_in (read_image bytes)) refl (report_fails (read_image bytes))
 
-not_shown : (file : Option (List ℕ)) (failure : Failure) → is_of_file failure ≡ false → shown file ≡ Err failure → ⊥
-not_shown file failure other is = let fails = sym (shown_fails file) ∙ ap (or_fails is_of_file) is ∙ other in cc
+cause_fails : (cause : OpenCause) → of_no_file (failure_of cause) ≡ false
+cause_fails causes.NoFile = refl
+cause_fails (causes.Malformed check at) = refl
+cause_fails (causes.Unsupported check at) = refl
+cause_fails (causes.Unresolved name) = refl
+cause_fails (causes.Inexact name base len) = refl
+cause_fails (causes.Full asked left) = refl
+cause_fails (causes.Limit check) = refl
+cause_fails causes.ReadFault = refl
+cause_fails causes.NoMemory = refl
 
--- the statuses tell the failures apart
-status_usage : (failure : Failure) → status_of failure ≡ 2 → failure ≡ Usage
-status_usage Usage is = refl
-status_usage NoFile is = absurd (omega (arith, is))
-status_usage (Malformed check at) is = absurd (omega (arith, is))
-status_usage (Unsupported check at) is = absurd (omega (arith, is))
-status_usage (Limit check) is = absurd (omega (arith, is))
-status_usage ReadFault is = absurd (omega (arith, is))
-status_usage WriteFault is = absurd (omega (arith, is))
-status_usage NoMemory is = absurd (omega (arith, is))
-status_usage NotBuilt is = absurd (omega (arith, is))
+-- how an end fails
+abbrev end_fails : Result Product Stop → Bool
+end_fails (Ok product) = false
+end_fails (Err stop) = of_no_file stop.failure
 
-status_not_built : (failure : Failure) → status_of failure ≡ 13 → failure ≡ NotBuilt
-status_not_built Usage is = absurd (omega (arith, is))
-status_not_built NoFile is = absurd (omega (arith, is))
-status_not_built (Malformed check at) is = absurd (omega (arith, is))
-status_not_built (Unsupported check at) is = absurd (omega (arith, is))
-status_not_built (Limit check) is = absurd (omega (arith, is))
-status_not_built ReadFault is = absurd (omega (arith, is))
-status_not_built WriteFault is = absurd (omega (arith, is))
-status_not_built NoMemory is = absurd (omega (arith, is))
-status_not_built NotBuilt is = refl
+printed_fails : (image : List ℕ) (answer : Result (List ℕ) Failure) → fails_so answer ≡ false → end_fails (printed image answer).«end» ≡ false
+printed_fails image (Ok report) fails = refl
+printed_fails image (Err failure) fails = fails
 
--- the status is not that of success, of a fault or of want of memory
-pub record IsRefusal (status : ℕ) : Type 0 where
-  pub not_done : status ≢ 0
-  pub not_unread : status ≢ 10
-  pub not_cut : status ≢ 11
-  pub not_starved : status ≢ 12
+loaded_fails : (image : List ℕ) (given : Result Product Stop) → IsLoaded image given → end_fails given ≡ false
+loaded_fails image (Ok product) loaded = refl
+loaded_fails image (Err stop) loaded = ap (λ (s : Stop). of_no_file s.failure) loaded.1 ∙ cause_fails loaded.0.cause
 
-refusal_status : (failure : Failure) → is_defined failure ≡ true → IsRefusal (status_of failure)
-refusal_status Usage is = record { not_done = λ e. omega (arith, e); not_unread = λ e. omega (arith, e); not_cut = λ e. omega (arith, e); not_starved = λ e. omega (arith, e) }
-refusal_status NoFile is = record { not_done = λ e. omega (arith, e); not_unread = λ e. omega (arith, e); not_cut = λ e. omega (arith, e); not_starved = λ e. omega (arith, e) }
-refusal_status (Malformed check at) is = record { not_done = λ e. omega (arith, e); not_unread = λ e. omega (arith, e); not_cut = λ e. omega (arith, e); not_starved = λ e. omega (arith, e) }
-refusal_status (Unsupported check at) is = record { not_done = λ e. omega (arith, e); not_unread = λ e. omega (arith, e); not_cut = λ e. omega (arith, e); not_starved = λ e. omega (arith, e) }
-refusal_status (Limit check) is = record { not_done = λ e. omega (arith, e); not_unread = λ e. omega (arith, e); not_cut = λ e. omega (arith, e); not_starved = λ e. omega (arith, e) }
-refusal_status ReadFault is = cc
-refusal_status WriteFault is = cc
-refusal_status NoMemory is = cc
-refusal_status NotBuilt is = record { not_done = λ e. omega (arith, e); not_unread = λ e. omega (arith, e); not_cut = λ e. omega (arith, e); not_starved = λ e. omega (arith, e) }
+-- a product of a command: `load` alone writes a file
+abbrev IsOf : Result Command Failure → Product → Type 0
+IsOf (Ok (Load words)) (Printed output) = ⊥
+IsOf (Ok (Load words)) (Saved name bytes memories) = Unit {0}
+IsOf command (Printed output) = Unit {0}
+IsOf command (Saved name bytes memories) = ⊥
 
-failed_status : (failure : Failure) → status_of failure ≢ 0
-failed_status Usage e = omega (arith, e)
-failed_status NoFile e = omega (arith, e)
-failed_status (Malformed check at) e = omega (arith, e)
-failed_status (Unsupported check at) e = omega (arith, e)
-failed_status (Limit check) e = omega (arith, e)
-failed_status ReadFault e = omega (arith, e)
-failed_status WriteFault e = omega (arith, e)
-failed_status NoMemory e = omega (arith, e)
-failed_status NotBuilt e = omega (arith, e)
+-- a run ends in a way of its command, whose words define each failure that no file defines
+pub record Faces (command : Result Command Failure) (disk : Disk) (out err : Stream) (kept : List TaggedMemory) (end : Result Unit Failure) : Type 0 where
+  pub story : Story
+  pub way : Way story disk out err kept end
+  pub by_words : (failure : Failure) (path : List ℕ) → of_no_file failure ≡ true → story.«end» ≡ Err (stop_at path failure) → command ≡ Err failure
+  pub products : (product : Product) → story.«end» ≡ Ok product → IsOf command product
 
--- a run ends in a way of its command; its words define each failure that no file defines
-pub record Faces (command : Result Command Failure) (reads : Count) (out : Stream) (end : Result Unit Failure) : Type 0 where
-  pub answer : Result (List ℕ) Failure
-  pub way : Way answer reads out end
-  pub by_words : (failure : Failure) → answer ≡ Err failure → is_of_file failure ≡ false → command ≡ Err failure
+not_defined : (given : Result Product Stop) (failure : Failure) (path : List ℕ) → end_fails given ≡ false → of_no_file failure ≡ true → given ≡ Err (stop_at path failure) → ⊥
+not_defined given failure path fails own is = let e = sym fails ∙ ap end_fails is ∙ own in cc
 
-abbrev as_command : Result (List ℕ) Failure → Result Command Failure
-as_command (Ok bytes) = Ok (Show bytes)
-as_command (Err failure) = Err failure
+printed_product : (image : List ℕ) (answer : Result (List ℕ) Failure) (product : Product) → (printed image answer).«end» ≡ Ok product → IsOf (Ok (Show image)) product
+printed_product image (Ok report) (Printed output) is = tt
+printed_product image (Ok report) (Saved name bytes memories) is = cc
+printed_product image (Err failure) product is = cc
 
-faces : (command : Result Command Failure) (told : Option Store) (reads : Count) (out : Stream) (end : Result Unit Failure) → or_fails is_of_words command ≡ true
-    → Ends command told reads out end → Faces command reads out end
-faces (Ok (Show image)) told reads out end words ends = record {
-  answer = shown ends.file;
-  way = way_of (shown ends.file) reads out end ends.ends;
-  by_words = λ failure is other. absurd (not_shown ends.file failure other is);
+loaded_product : (words : LoadWords) (product : Product) → IsLoaded words.image (Ok product) → IsOf (Ok (Load words)) product
+loaded_product words (Printed output) loaded = loaded
+loaded_product words (Saved name bytes memories) loaded = tt
+
+same_failure : (f failure : Failure) (path : List ℕ) → stop_at [] f ≡ stop_at path failure → f ≡ failure
+same_failure f failure path is = ap (λ (s : Stop). s.failure) is
+
+abbrev stop_or : Stop → Result Product Stop → Stop
+stop_or stop (Ok product) = stop
+stop_or stop (Err other) = other
+
+faces : (command : Result Command Failure) (disk : Disk) (out err : Stream) (kept : List TaggedMemory) (end : Result Unit Failure) → Ends command disk out err kept end → Faces command disk out err kept end
+faces (Ok (Show image)) disk out err kept end ends = record {
+  story = show_story image ends.file;
+  way = way_of (show_story image ends.file) disk out err kept end ends.ends;
+  by_words = λ failure path own is. absurd (not_defined _ failure path (printed_fails image (shown ends.file) (shown_fails ends.file)) own is);
+  products = printed_product image (shown ends.file);
 }
-faces (Err failure) told reads out end words ends = record {
-  answer = Err failure;
-  way = Refused failure ends.0 (words_defined failure words) (record { defined = refl; still = ends.1; reads_kept = ends.2 });
-  by_words = λ other is _. ap as_command is;
+faces (Ok (Load words)) disk out err kept end ends = record {
+  story = ends.story;
+  way = way_of ends.story disk out err kept end ends.ends;
+  by_words = λ failure path own is. absurd (not_defined ends.story.«end» failure path (loaded_fails words.image ends.story.«end» ends.loaded) own is);
+  products = λ product is. loaded_product words product (subst (IsLoaded words.image) is ends.loaded);
+}
+faces (Err f) disk out err kept end ends = record {
+  story = stopped [] f;
+  way = way_of (stopped [] f) disk out err kept end ends.ends;
+  by_words = λ failure path own is. ap (λ (g : Failure). Err g) (same_failure f failure path (ap (stop_or (stop_at [] f)) is));
+  products = λ product is. cc;
 }
 
--- the words give their failure
-gives_failure : (command : Result Command Failure) (told : Option Store) (reads : Count) (out : Stream) (end : Result Unit Failure) → Ends command told reads out end
-    → (failure : Failure) → command ≡ Err failure → end_status end ≡ status_of failure
-gives_failure command told reads out end ends failure is =
-    let given = subst (λ (c : Result Command Failure). Ends c told reads out end) is ends in ap end_status given.0
+-- the words give their failure, or memory runs out
+gives_failure : (command : Result Command Failure) (disk : Disk) (out err : Stream) (kept : List TaggedMemory) (end : Result Unit Failure) → Ends command disk out err kept end
+    → (failure : Failure) → command ≡ Err failure → (end_status end ≡ status_of failure) ⊎ (end_status end ≡ 12)
+gives_failure command disk out err kept end ends failure is =
+    let given = subst (λ (c : Result Command Failure). Ends c disk out err kept end) is ends in
+    ⊎_elim (λ (h : (end ≡ Err failure) × _). inl (ap end_status h.0)) (λ (h : end ≡ Err NoMemory). inr (ap end_status h)) given.is_end
 
-module _ (reads : Count) (out : Stream) (end : Result Unit Failure) (answer : Result (List ℕ) Failure) where
+kept_count : (command : Result Command Failure) (disk : Disk) (out : Stream) → IsKept disk.writes → IsKept out.faults → IsKept (output_count command disk out)
+kept_count (Ok (Show image)) disk out writes faults = faults
+kept_count (Ok (Load words)) disk out writes faults = writes
+kept_count (Err failure) disk out writes faults = faults
+
+given_kept : (command : Result Command Failure) (disk : Disk) (out : Stream) (kept : List TaggedMemory) (product : Product) → IsOf command product → IsGiven product disk out kept → IsKept (output_count command disk out)
+given_kept (Ok (Show image)) disk out kept (Printed output) of given = given.1.count
+given_kept (Ok (Show image)) disk out kept (Saved name bytes memories) of given = absurd of
+given_kept (Ok (Load words)) disk out kept (Printed output) of given = absurd of
+given_kept (Ok (Load words)) disk out kept (Saved name bytes memories) of given = given.0.count
+given_kept (Err failure) disk out kept (Printed output) of given = given.1.count
+given_kept (Err failure) disk out kept (Saved name bytes memories) of given = absurd of
+
+part_rose : (command : Result Command Failure) (disk : Disk) (out : Stream) (kept : List TaggedMemory) (product : Product) → IsOf command product → IsGivenPart product disk out kept
+    → HasRisen (output_count command disk out)
+part_rose (Ok (Show image)) disk out kept (Printed output) of given = given.1.rose
+part_rose (Ok (Show image)) disk out kept (Saved name bytes memories) of given = absurd of
+part_rose (Ok (Load words)) disk out kept (Printed output) of given = absurd of
+part_rose (Ok (Load words)) disk out kept (Saved name bytes memories) of given = given.0.rose
+part_rose (Err failure) disk out kept (Printed output) of given = given.1.rose
+part_rose (Err failure) disk out kept (Saved name bytes memories) of given = absurd of
+
+part_unkept : (disk : Disk) (out : Stream) (kept : List TaggedMemory) (product : Product) → IsGivenPart product disk out kept → kept ≡ []
+part_unkept disk out kept (Printed output) given = given.2
+part_unkept disk out kept (Saved name bytes memories) given = given.2
+
+module _ (command : Result Command Failure) (disk : Disk) (out err : Stream) (kept : List TaggedMemory) (end : Result Unit Failure) (story : Story) where
   -- a failure with a status of its own
-  own_status : Way answer reads out end → (failure : Failure) → IsRefusal (status_of failure) → ((other : Failure) → status_of other ≡ status_of failure → other ≡ failure)
-      → end_status end ≡ status_of failure → answer ≡ Err failure
+  own_status : Way story disk out err kept end → (failure : Failure) → IsRefusal (status_of failure) → ((other : Failure) → status_of other ≡ status_of failure → other ≡ failure)
+      → end_status end ≡ status_of failure → (path : List ℕ) × (story.«end» ≡ Err (stop_at path failure))
   own_status (Done e d) failure refusal own is = absurd (refusal.not_done (sym is ∙ ap end_status e))
   own_status (Unread e u) failure refusal own is = absurd (refusal.not_unread (sym is ∙ ap end_status e))
   own_status (CutShort e c) failure refusal own is = absurd (refusal.not_cut (sym is ∙ ap end_status e))
   own_status (Starved e s) failure refusal own is = absurd (refusal.not_starved (sym is ∙ ap end_status e))
-  own_status (Refused other e d r) failure refusal own is = r.defined ∙ ap (λ (f : Failure). Err f) (own other (sym (ap end_status e) ∙ is))
+  own_status (Refused other e d r) failure refusal own is = (r.path, r.defined ∙ ap (λ (f : Failure). Err (stop_at r.path f)) (own other (sym (ap end_status e) ∙ is)))
 
-  read_fault : Way answer reads out end → end_status end ≡ 10 → HasRisen reads
+  read_fault : Way story disk out err kept end → end_status end ≡ 10 → HasRisen disk.reads
   read_fault (Done e d) is = let s = sym is ∙ ap end_status e in absurd (omega (arith, s))
   read_fault (Unread e u) is = u.rose
   read_fault (CutShort e c) is = let s = sym is ∙ ap end_status e in absurd (omega (arith, s))
   read_fault (Starved e u) is = let s = sym is ∙ ap end_status e in absurd (omega (arith, s))
-  read_fault (Refused other e d r) is = absurd ((refusal_status other d).not_unread (sym (ap end_status e) ∙ is))
+  read_fault (Refused other e d r) is = absurd (d.not_unread (sym (ap end_status e) ∙ is))
 
-  read_rose : Way answer reads out end → reads.before < reads.now → (end_status end ≡ 10) ⊎ (end_status end ≡ 12)
-  read_rose (Done e d) rose = let kept = d.reads_kept in absurd (omega (arith, kept, rose))
+  read_rose : Way story disk out err kept end → disk.reads.before < disk.reads.now → (end_status end ≡ 10) ⊎ (end_status end ≡ 12)
+  read_rose (Done e d) rose = let same = d.reads_kept in absurd (omega (arith, same, rose))
   read_rose (Unread e u) rose = inl (ap end_status e)
-  read_rose (CutShort e c) rose = let kept = c.reads_kept in absurd (omega (arith, kept, rose))
+  read_rose (CutShort e c) rose = let same = c.reads_kept in absurd (omega (arith, same, rose))
   read_rose (Starved e u) rose = inr (ap end_status e)
-  read_rose (Refused other e d r) rose = let kept = r.reads_kept in absurd (omega (arith, kept, rose))
+  read_rose (Refused other e d r) rose = let same = r.reads_kept in absurd (omega (arith, same, rose))
 
-  write_fault : Way answer reads out end → end_status end ≡ 11 → HasRisen out.faults
-  write_fault (Done e d) is = let s = sym is ∙ ap end_status e in absurd (omega (arith, s))
-  write_fault (Unread e u) is = let s = sym is ∙ ap end_status e in absurd (omega (arith, s))
-  write_fault (CutShort e c) is = c.written.rose
-  write_fault (Starved e u) is = let s = sym is ∙ ap end_status e in absurd (omega (arith, s))
-  write_fault (Refused other e d r) is = absurd ((refusal_status other d).not_cut (sym (ap end_status e) ∙ is))
+  module _ (products : (product : Product) → story.«end» ≡ Ok product → IsOf command product) where
+    write_fault : Way story disk out err kept end → end_status end ≡ 11 → HasRisen (output_count command disk out)
+    write_fault (Done e d) is = let s = sym is ∙ ap end_status e in absurd (omega (arith, s))
+    write_fault (Unread e u) is = let s = sym is ∙ ap end_status e in absurd (omega (arith, s))
+    write_fault (CutShort e c) is = part_rose command disk out kept c.product (products c.product c.defined) c.given
+    write_fault (Starved e u) is = let s = sym is ∙ ap end_status e in absurd (omega (arith, s))
+    write_fault (Refused other e d r) is = absurd (d.not_cut (sym (ap end_status e) ∙ is))
 
-  write_rose : Way answer reads out end → out.faults.before < out.faults.now → end_status end ≡ 11
-  write_rose (Done e d) rose = let kept = d.written.count in absurd (omega (arith, kept, rose))
-  write_rose (Unread e u) rose = let kept = u.still.count in absurd (omega (arith, kept, rose))
-  write_rose (CutShort e c) rose = ap end_status e
-  write_rose (Starved e u) rose = let kept = u.still.count in absurd (omega (arith, kept, rose))
-  write_rose (Refused other e d r) rose = let kept = r.still.count in absurd (omega (arith, kept, rose))
+    write_rose : Way story disk out err kept end → (output_count command disk out).before < (output_count command disk out).now → end_status end ≡ 11
+    write_rose (Done e d) rose = let same = given_kept command disk out kept d.product (products d.product d.defined) d.given in absurd (omega (arith, same, rose))
+    write_rose (Unread e u) rose = let same = kept_count command disk out u.nothing.untouched.count u.nothing.still.count in absurd (omega (arith, same, rose))
+    write_rose (CutShort e c) rose = ap end_status e
+    write_rose (Starved e u) rose = let same = kept_count command disk out u.nothing.untouched.count u.nothing.still.count in absurd (omega (arith, same, rose))
+    write_rose (Refused other e d r) rose = let same = kept_count command disk out r.nothing.untouched.count r.nothing.still.count in absurd (omega (arith, same, rose))
 
-  quiet : Way answer reads out end → end_status end ≢ 0 → end_status end ≢ 11 → IsStill out
+  quiet : Way story disk out err kept end → end_status end ≢ 0 → end_status end ≢ 11 → IsNothing disk out kept
   quiet (Done e d) failed uncut = absurd (failed (ap end_status e))
-  quiet (Unread e u) failed uncut = u.still
+  quiet (Unread e u) failed uncut = u.nothing
   quiet (CutShort e c) failed uncut = absurd (uncut (ap end_status e))
-  quiet (Starved e u) failed uncut = u.still
-  quiet (Refused other e d r) failed uncut = r.still
+  quiet (Starved e u) failed uncut = u.nothing
+  quiet (Refused other e d r) failed uncut = r.nothing
 
-silent : (err : Stream) (path : List ℕ) (end : Result Unit Failure) → EndSays err path end → end_status end ≡ 0 → IsStill err
-silent err path (Ok _) says is = says
-silent err path (Err failure) says is = absurd (failed_status failure is)
+  none_kept : Way story disk out err kept end → end_status end ≢ 0 → kept ≡ []
+  none_kept (Done e d) failed = absurd (failed (ap end_status e))
+  none_kept (Unread e u) failed = u.nothing.none
+  none_kept (CutShort e c) failed = part_unkept disk out kept c.product c.given
+  none_kept (Starved e u) failed = u.nothing.none
+  none_kept (Refused other e d r) failed = r.nothing.none
+
+-- `load` writes nothing to standard output
+given_still : (words : LoadWords) (disk : Disk) (out : Stream) (kept : List TaggedMemory) (product : Product) → IsOf (Ok (Load words)) product → IsGiven product disk out kept → IsStill out
+given_still words disk out kept (Printed output) of given = absurd of
+given_still words disk out kept (Saved name bytes memories) of given = given.1
+
+part_still : (words : LoadWords) (disk : Disk) (out : Stream) (kept : List TaggedMemory) (product : Product) → IsOf (Ok (Load words)) product → IsGivenPart product disk out kept → IsStill out
+part_still words disk out kept (Printed output) of given = absurd of
+part_still words disk out kept (Saved name bytes memories) of given = given.1
+
+load_still : (words : LoadWords) (disk : Disk) (out err : Stream) (kept : List TaggedMemory) (end : Result Unit Failure) (story : Story) → ((product : Product) → story.«end» ≡ Ok product → IsOf (Ok (Load words)) product)
+    → Way story disk out err kept end → IsStill out
+load_still words disk out err kept end story products (Done e d) = given_still words disk out kept d.product (products d.product d.defined) d.given
+load_still words disk out err kept end story products (Unread e u) = u.nothing.still
+load_still words disk out err kept end story products (CutShort e c) = part_still words disk out kept c.product (products c.product c.defined) c.given
+load_still words disk out err kept end story products (Starved e u) = u.nothing.still
+load_still words disk out err kept end story products (Refused other e d r) = r.nothing.still
+
+-- the other commands touch no file, keep nothing, and tell nothing where they succeed
+abbrev IsApart : Disk → Stream → List TaggedMemory → ℕ → Type 0
+IsApart disk err kept status = IsUntouched disk × (kept ≡ []) × (status ≡ 0 → IsStill err) × (status ≡ 12 → IsKept disk.reads)
+
+module _ (image : List ℕ) (disk : Disk) (out err : Stream) (kept : List TaggedMemory) (end : Result Unit Failure) (story : Story) (none : story.notes ≡ [])
+    (calm : IsCalm disk.reads end) (products : (product : Product) → story.«end» ≡ Ok product → IsOf (Ok (Show image)) product) where
+  apart_given : (product : Product) → IsOf (Ok (Show image)) product → IsGiven product disk out kept → IsUntouched disk × (kept ≡ [])
+  apart_given (Printed output) of given = (given.0, given.2)
+  apart_given (Saved name bytes memories) of given = absurd of
+
+  apart_part : (product : Product) → IsOf (Ok (Show image)) product → IsGivenPart product disk out kept → IsUntouched disk × (kept ≡ [])
+  apart_part (Printed output) of given = (given.0, given.2)
+  apart_part (Saved name bytes memories) of given = absurd of
+
+  apart : Way story disk out err kept end → IsApart disk err kept (end_status end)
+  apart (Done e d) =
+      let given = apart_given d.product (products d.product d.defined) d.given in
+      (given.0, given.1, λ is. subst (λ (notes : _). Says err (note_lines notes)) none d.says, λ is. let s = sym is ∙ ap end_status e in absurd (omega (arith, s)))
+  apart (Unread e u) = (u.nothing.untouched, u.nothing.none, λ is. let s = sym is ∙ ap end_status e in absurd (omega (arith, s)), λ is. let s = sym is ∙ ap end_status e in absurd (omega (arith, s)))
+  apart (CutShort e c) =
+      let given = apart_part c.product (products c.product c.defined) c.given in
+      (given.0, given.1, λ is. let s = sym is ∙ ap end_status e in absurd (omega (arith, s)), λ is. let s = sym is ∙ ap end_status e in absurd (omega (arith, s)))
+  apart (Starved e u) = (u.nothing.untouched, u.nothing.none, λ is. let s = sym is ∙ ap end_status e in absurd (omega (arith, s)), λ is. calm e)
+  apart (Refused other e d r) =
+      (r.nothing.untouched, r.nothing.none, λ is. absurd (d.not_done (sym (ap end_status e) ∙ is)), λ is. absurd (d.not_starved (sym (ap end_status e) ∙ is)))
+
+no_notes : (image : List ℕ) (answer : Result (List ℕ) Failure) → (printed image answer).notes ≡ []
+no_notes image (Ok bytes) = refl
+no_notes image (Err failure) = refl
+
+aside : (command : Result Command Failure) (disk : Disk) (out err : Stream) (kept : List TaggedMemory) (end : Result Unit Failure) → Ends command disk out err kept end
+    → IsAside command disk out err kept (end_status end)
+aside (Ok (Show image)) disk out err kept end ends =
+    apart image disk out err kept end (show_story image ends.file) (no_notes image (shown ends.file)) ends.calm (printed_product image (shown ends.file)) (way_of _ disk out err kept end ends.ends)
+aside (Ok (Load words)) disk out err kept end ends =
+    let face = faces (Ok (Load words)) disk out err kept end ends in load_still words disk out err kept end face.story face.products face.way
+aside (Err failure) disk out err kept end ends =
+    apart [] disk out err kept end (stopped [] failure) refl ends.calm (λ product is. cc) (way_of _ disk out err kept end ends.ends)
 
 -- the causes, for the status of the end
-end_causes : (words : List (List ℕ)) (told : Option Store) (reads : Count) (out err : Stream) (end : Result Unit Failure) → Ends (command_of words) told reads out end
-    → EndSays err (path_of (command_of words)) end → HasCauses words reads out err (end_status end)
-end_causes words told reads out err end ends says =
-    let face = faces (command_of words) told reads out end (words_fail words) ends in
-    let given = gives_failure (command_of words) told reads out end ends in
-    let own = own_status reads out end face.answer face.way in
+end_causes : (words : List (List ℕ)) (disk : Disk) (out err : Stream) (kept : List TaggedMemory) (end : Result Unit Failure) → Ends (command_of words) disk out err kept end
+    → HasCauses words disk out err kept (end_status end)
+end_causes words disk out err kept end ends =
+    let command = command_of words in
+    let face = faces command disk out err kept end ends in
+    let given = gives_failure command disk out err kept end ends in
+    let own = own_status command disk out err kept end face.story face.way in
     record {
-      usage = (λ is. face.by_words Usage (own Usage (refusal_status Usage refl) status_usage is) refl, given Usage);
-      not_built = (λ is. face.by_words NotBuilt (own NotBuilt (refusal_status NotBuilt refl) status_not_built is) refl, given NotBuilt);
-      long_path = given (Limit (number_of PathLength));
-      read_fault = read_fault reads out end face.answer face.way;
-      read_rose = read_rose reads out end face.answer face.way;
-      write_fault = write_fault reads out end face.answer face.way;
-      write_rose = write_rose reads out end face.answer face.way;
-      quiet = quiet reads out end face.answer face.way;
-      silent = silent err (path_of (command_of words)) end says;
+      usage = λ is. let at = own Usage refusal_2 status_usage is in face.by_words Usage at.0 refl at.1;
+      is_usage = given Usage;
+      not_built = λ is. let at = own NotBuilt refusal_13 status_not_built is in face.by_words NotBuilt at.0 refl at.1;
+      is_not_built = given NotBuilt;
+      is_limit = λ check. given (Limit check);
+      read_fault = read_fault command disk out err kept end face.story face.way;
+      read_rose = read_rose command disk out err kept end face.story face.way;
+      write_fault = write_fault command disk out err kept end face.story face.products face.way;
+      write_rose = write_rose command disk out err kept end face.story face.products face.way;
+      aside = aside command disk out err kept end ends;
+      quiet = quiet command disk out err kept end face.story face.way;
+      none_kept = none_kept command disk out err kept end face.story face.way;
     }
 
-pub causes : (words : List (List ℕ)) (told : Option Store) (reads : Count) (out err : Stream) (status : ℕ) → Runs words told reads out err status → HasCauses words reads out err status
-causes words told reads out err status run =
-    subst (λ (s : ℕ). HasCauses words reads out err s) (sym run.is_status) (end_causes words told reads out err run.end run.ends run.says)
+pub causes_of : (words : List (List ℕ)) (disk : Disk) (out err : Stream) (kept : List TaggedMemory) (status : ℕ) → Runs words disk out err kept status → HasCauses words disk out err kept status
+causes_of words disk out err kept status ran =
+    subst (λ (s : ℕ). HasCauses words disk out err kept s) (sym ran.is_status) (end_causes words disk out err kept ran.end ran.ends)

@@ -1,5 +1,14 @@
 pub mod Hex
 pub mod Ways
 pub mod Shown
+pub mod Parsing
+pub mod Accepted
+pub mod WordFaults
+pub mod Said
+pub mod Outcomes
+pub mod Steps
+pub mod Written
+pub mod Coming
+pub mod Ended
 pub mod Causes
 pub mod Answered

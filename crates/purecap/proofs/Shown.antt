@@ -11,39 +11,40 @@ use Rattle.cap_base.specs.declared.reading.FileRefusal.{FileRefusal}
 use Rattle.cap_base.specs.declared.reading.FileRefusal.TheVariants as files
 use Rattle.cap_image.specs.Reading.{read_image}
 use Rattle.purecap.specs.declared.faults.Failure.{Failure}
-use Rattle.purecap.specs.declared.faults.Failure.TheVariants.{Usage, NoFile, Malformed, Unsupported, Limit, ReadFault, WriteFault, NoMemory, NotBuilt}
+use Rattle.purecap.specs.declared.faults.Failure.TheVariants.{Usage, NoFile, Malformed, Unsupported, Unresolved, Inexact, Full, Limit, ReadFault, WriteFault, NoMemory, NotBuilt}
 use Rattle.purecap.specs.Answer.{report_in, shown}
 use Rattle.purecap.specs.Reading.{unread, IsFailureOf}
-use Rattle.purecap.specs.Run.{Count, Stream, IsStill, IsKept, Outputs, EndsAs, Shows}
+use Rattle.purecap.specs.Run.{Count, Stream, IsStill, IsKept, Outputs}
+use Rattle.purecap.specs.Printing.{PrintsAs, Prints}
 
 -- there are bytes that are more than the limit
 large : (limit : ℕ) → (bytes : List ℕ) × (limit < length bytes)
 large limit = (replicate (limit + 1) 0, omega (arith, length-replicate {A = ℕ} (limit + 1) 0))
 
 -- a file within the limit gives its report, and a larger one is refused
-report_within : (bytes : List ℕ) → length bytes ≤ 2 ^ 27 → shown (Some bytes) ≡ report_in (read_image bytes)
+report_within : (bytes : List ℕ) → length bytes ≤ 2 ^ 31 → shown (Some bytes) ≡ report_in (read_image bytes)
 report_within bytes within =
-    let small : nat_lt (2 ^ 27) (length bytes) ≡ false = grind (arith, nat_tests) in
+    let small : nat_lt (2 ^ 31) (length bytes) ≡ false = grind (arith, nat_tests) in
     ap (λ (t : Bool). cond t (Err (Limit (number_of FileSize))) (report_in (read_image bytes))) small
 
-report_beyond : (bytes : List ℕ) → 2 ^ 27 < length bytes → shown (Some bytes) ≡ Err (Limit (number_of FileSize))
+report_beyond : (bytes : List ℕ) → 2 ^ 31 < length bytes → shown (Some bytes) ≡ Err (Limit (number_of FileSize))
 report_beyond bytes beyond =
-    let larger : nat_lt (2 ^ 27) (length bytes) ≡ true = grind (arith, nat_tests) in
+    let larger : nat_lt (2 ^ 31) (length bytes) ≡ true = grind (arith, nat_tests) in
     ap (λ (t : Bool). cond t (Err (Limit (number_of FileSize))) (report_in (read_image bytes))) larger
 
 -- what the store has, where it tells
-abbrev Has : Option Store → List ℕ → Option (List ℕ) → Type 0
+abbrev pub Has : Option Store → List ℕ → Option (List ℕ) → Type 0
 Has told image file = IfSome told (λ store. file ≡ file_in store image)
 
-some_file : (told : Option Store) (image : List ℕ) → (file : Option (List ℕ)) × Has told image file
+pub some_file : (told : Option Store) (image : List ℕ) → (file : Option (List ℕ)) × Has told image file
 some_file None image = (None, tt)
 some_file (Some store) image = (file_in store image, refl)
 
-no_file : (told : Option Store) (image : List ℕ) → FileRefused told image (2 ^ 27) files.NoFile → Has told image None
+no_file : (told : Option Store) (image : List ℕ) → FileRefused told image (2 ^ 31) files.NoFile → Has told image None
 no_file None image is = tt
 no_file (Some store) image is = sym is
 
-this_file : (told : Option Store) (image bytes : List ℕ) → IsFile told image (2 ^ 27) bytes → Has told image (Some bytes)
+this_file : (told : Option Store) (image bytes : List ℕ) → IsFile told image (2 ^ 31) bytes → Has told image (Some bytes)
 this_file None image bytes is = tt
 this_file (Some store) image bytes is = sym is.1
 
@@ -51,13 +52,13 @@ larger_is : (file : Option (List ℕ)) (limit : ℕ) → IsLarger file limit →
 larger_is None limit is = absurd is
 larger_is (Some bytes) limit is = (bytes, refl, is)
 
-large_file : (told : Option Store) (image : List ℕ) → FileRefused told image (2 ^ 27) files.TooLarge → (bytes : List ℕ) × Has told image (Some bytes) × (2 ^ 27 < length bytes)
-large_file None image is = let some = large (2 ^ 27) in (some.0, tt, some.1)
-large_file (Some store) image is = larger_is (file_in store image) (2 ^ 27) is
+large_file : (told : Option Store) (image : List ℕ) → FileRefused told image (2 ^ 31) files.TooLarge → (bytes : List ℕ) × Has told image (Some bytes) × (2 ^ 31 < length bytes)
+large_file None image is = let some = large (2 ^ 31) in (some.0, tt, some.1)
+large_file (Some store) image is = larger_is (file_in store image) (2 ^ 31) is
 
 -- the file was not read
-pub shows_unread : (told : Option Store) (image : List ℕ) (reads : Count) (out : Stream) (refusal : FileRefusal) → FileRefused told image (2 ^ 27) refusal
-    → FaultCounted {T = Unit {0}} reads.before reads.now (Err refusal) → IsStill out → Shows told image reads out (Err (unread refusal))
+pub shows_unread : (told : Option Store) (image : List ℕ) (reads : Count) (out : Stream) (refusal : FileRefusal) → FileRefused told image (2 ^ 31) refusal
+    → FaultCounted {T = Unit {0}} reads.before reads.now (Err refusal) → IsStill out → Prints told image reads out (Err (unread refusal))
 shows_unread told image reads out files.NoFile is counted still =
     record { file = None; is_file = no_file told image is; ends = record { defined = refl; still = still; reads_kept = counted } }
 shows_unread told image reads out files.TooLarge is counted still =
@@ -69,28 +70,31 @@ shows_unread told image reads out files.NoMemory is counted still =
     let some = some_file told image in record { file = some.0; is_file = some.1; ends = record { still = still; reads_kept = counted } }
 
 -- the file was read, and what its bytes give decides
-pub shows_read : (told : Option Store) (image bytes : List ℕ) (reads : Count) (out : Stream) (end : Result Unit Failure) → IsFile told image (2 ^ 27) bytes
-    → EndsAs (report_in (read_image bytes)) reads out end → Shows told image reads out end
+pub shows_read : (told : Option Store) (image bytes : List ℕ) (reads : Count) (out : Stream) (end : Result Unit Failure) → IsFile told image (2 ^ 31) bytes
+    → PrintsAs (report_in (read_image bytes)) reads out end → Prints told image reads out end
 shows_read told image bytes reads out end is ends = record {
   file = Some bytes;
   is_file = this_file told image bytes is;
-  ends = subst (λ (answer : Result (List ℕ) Failure). EndsAs answer reads out end) (sym (report_within bytes is.0)) ends;
+  ends = subst (λ (answer : Result (List ℕ) Failure). PrintsAs answer reads out end) (sym (report_within bytes is.0)) ends;
 }
 
 -- the file was read, and its report written
 pub ends_output : (answer : Result (List ℕ) Failure) (reads : Count) (out : Stream) (bytes : List ℕ) (end : Result Unit Failure) → answer ≡ Ok bytes → IsKept reads → Outputs out bytes end
-    → EndsAs answer reads out end
+    → PrintsAs answer reads out end
 ends_output answer reads out bytes (Ok _) is kept written = record { bytes = bytes; defined = is; written = written; reads_kept = kept }
 ends_output answer reads out bytes (Err failure) is kept cut =
-    subst (λ (f : Failure). EndsAs answer reads out (Err f)) (sym cut.0) (record { bytes = bytes; defined = is; written = cut.1; reads_kept = kept })
+    subst (λ (f : Failure). PrintsAs answer reads out (Err f)) (sym cut.0) (record { bytes = bytes; defined = is; written = cut.1; reads_kept = kept })
 
 -- the file was read, and refused
 pub ends_refused : (answer : Result (List ℕ) Failure) (reads : Count) (out : Stream) (failure : Failure) → IsFailureOf answer failure → IsStill out → IsKept reads
-    → EndsAs answer reads out (Err failure)
+    → PrintsAs answer reads out (Err failure)
 ends_refused answer reads out Usage is still kept = record { defined = is; still = still; reads_kept = kept }
 ends_refused answer reads out NoFile is still kept = record { defined = is; still = still; reads_kept = kept }
 ends_refused answer reads out (Malformed check at) is still kept = record { defined = is; still = still; reads_kept = kept }
 ends_refused answer reads out (Unsupported check at) is still kept = record { defined = is; still = still; reads_kept = kept }
+ends_refused answer reads out (Unresolved name) is still kept = record { defined = is; still = still; reads_kept = kept }
+ends_refused answer reads out (Inexact name base len) is still kept = record { defined = is; still = still; reads_kept = kept }
+ends_refused answer reads out (Full asked) is still kept = record { defined = is; still = still; reads_kept = kept }
 ends_refused answer reads out (Limit check) is still kept = record { defined = is; still = still; reads_kept = kept }
 ends_refused answer reads out ReadFault is still kept = absurd is
 ends_refused answer reads out WriteFault is still kept = absurd is

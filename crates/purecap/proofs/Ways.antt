@@ -1,15 +1,11 @@
 -- How commands end, by cases.
-use Rattle.std.proofs.Common.{◌≡◌, ℕ, Bool, true, false, List, Result, Ok, Err, refl}
+use Rattle.std.proofs.Common.{◌≡◌, ◌≢◌, ℕ, Bool, true, false, List, Result, Ok, Err, refl, arith}
+use Rattle.cap_mem.specs.Tagged.{TaggedMemory}
 use Rattle.purecap.specs.declared.faults.Failure.{Failure}
-use Rattle.purecap.specs.declared.faults.Failure.TheVariants.{Usage, NoFile, Malformed, Unsupported, Limit, ReadFault, WriteFault, NoMemory, NotBuilt}
-use Rattle.purecap.specs.Run.{Count, Stream, IsDone, IsCutShort, IsRefused, IsUnread, IsStarved, EndsAs}
-
--- a failure that the words and the files define
-abbrev pub is_defined : Failure → Bool
-is_defined ReadFault = false
-is_defined WriteFault = false
-is_defined NoMemory = false
-is_defined failure = true
+use Rattle.purecap.specs.declared.faults.Failure.TheVariants.{Usage, NoFile, Malformed, Unsupported, Unresolved, Inexact, Full, Limit, ReadFault, WriteFault, NoMemory, NotBuilt}
+use Rattle.purecap.specs.Faults.{status_of}
+use Rattle.purecap.specs.Answer.{Story}
+use Rattle.purecap.specs.Run.{Stream, Disk, IsDone, IsCutShort, IsRefused, IsUnread, IsStarved, EndsAs}
 
 -- a failure that the words define
 abbrev pub is_of_words : Failure → Bool
@@ -18,46 +14,93 @@ is_of_words NotBuilt = true
 is_of_words (Limit check) = true
 is_of_words failure = false
 
--- a failure that a file defines
-abbrev pub is_of_file : Failure → Bool
-is_of_file NoFile = true
-is_of_file (Malformed check at) = true
-is_of_file (Unsupported check at) = true
-is_of_file (Limit check) = true
-is_of_file failure = false
-
 -- the test holds of the failure, where there is one
 abbrev pub or_fails : {A : Type 0} → (Failure → Bool) → Result A Failure → Bool
 or_fails test (Ok a) = true
 or_fails test (Err failure) = test failure
 
-pub words_defined : (failure : Failure) → is_of_words failure ≡ true → is_defined failure ≡ true
-words_defined Usage is = refl
-words_defined NoFile is = refl
-words_defined (Malformed check at) is = refl
-words_defined (Unsupported check at) is = refl
-words_defined (Limit check) is = refl
-words_defined ReadFault is = is
-words_defined WriteFault is = is
-words_defined NoMemory is = is
-words_defined NotBuilt is = refl
+-- the status is not that of success, of a fault or of want of memory
+pub record IsRefusal (status : ℕ) : Type 0 where
+  pub not_done : status ≢ 0
+  pub not_unread : status ≢ 10
+  pub not_cut : status ≢ 11
+  pub not_starved : status ≢ 12
 
--- the ways in which a command may end of which this is the answer
-pub data Way (answer : Result (List ℕ) Failure) (reads : Count) (out : Stream) (end : Result Unit Failure) : Type 0 where
-  Done : end ≡ Ok tt → IsDone answer reads out → Way answer reads out end
-  Unread : end ≡ Err ReadFault → IsUnread reads out → Way answer reads out end
-  CutShort : end ≡ Err WriteFault → IsCutShort answer reads out → Way answer reads out end
-  Starved : end ≡ Err NoMemory → IsStarved reads out → Way answer reads out end
-  Refused : (failure : Failure) → end ≡ Err failure → is_defined failure ≡ true → IsRefused answer failure reads out → Way answer reads out end
+-- the ways in which a command may end of which this is the story
+pub data Way (story : Story) (disk : Disk) (out err : Stream) (kept : List TaggedMemory) (end : Result Unit Failure) : Type 0 where
+  Done : end ≡ Ok tt → IsDone story disk out err kept → Way story disk out err kept end
+  Unread : end ≡ Err ReadFault → IsUnread story disk out err kept → Way story disk out err kept end
+  CutShort : end ≡ Err WriteFault → IsCutShort story disk out err kept → Way story disk out err kept end
+  Starved : end ≡ Err NoMemory → IsStarved story disk out err kept → Way story disk out err kept end
+  Refused : (failure : Failure) → end ≡ Err failure → IsRefusal (status_of failure) → IsRefused story failure disk out err kept → Way story disk out err kept end
 
-pub way_of : (answer : Result (List ℕ) Failure) (reads : Count) (out : Stream) (end : Result Unit Failure) → EndsAs answer reads out end → Way answer reads out end
-way_of answer reads out (Ok _) ends = Done refl ends
-way_of answer reads out (Err Usage) ends = Refused Usage refl refl ends
-way_of answer reads out (Err NoFile) ends = Refused NoFile refl refl ends
-way_of answer reads out (Err (Malformed check at)) ends = Refused (Malformed check at) refl refl ends
-way_of answer reads out (Err (Unsupported check at)) ends = Refused (Unsupported check at) refl refl ends
-way_of answer reads out (Err (Limit check)) ends = Refused (Limit check) refl refl ends
-way_of answer reads out (Err ReadFault) ends = Unread refl ends
-way_of answer reads out (Err WriteFault) ends = CutShort refl ends
-way_of answer reads out (Err NoMemory) ends = Starved refl ends
-way_of answer reads out (Err NotBuilt) ends = Refused NotBuilt refl refl ends
+pub refusal_2 : IsRefusal 2
+refusal_2 = record { not_done = λ e. omega (arith, e); not_unread = λ e. omega (arith, e); not_cut = λ e. omega (arith, e); not_starved = λ e. omega (arith, e) }
+
+refusal_3 : IsRefusal 3
+refusal_3 = record { not_done = λ e. omega (arith, e); not_unread = λ e. omega (arith, e); not_cut = λ e. omega (arith, e); not_starved = λ e. omega (arith, e) }
+
+refusal_4 : IsRefusal 4
+refusal_4 = record { not_done = λ e. omega (arith, e); not_unread = λ e. omega (arith, e); not_cut = λ e. omega (arith, e); not_starved = λ e. omega (arith, e) }
+
+refusal_5 : IsRefusal 5
+refusal_5 = record { not_done = λ e. omega (arith, e); not_unread = λ e. omega (arith, e); not_cut = λ e. omega (arith, e); not_starved = λ e. omega (arith, e) }
+
+refusal_6 : IsRefusal 6
+refusal_6 = record { not_done = λ e. omega (arith, e); not_unread = λ e. omega (arith, e); not_cut = λ e. omega (arith, e); not_starved = λ e. omega (arith, e) }
+
+refusal_7 : IsRefusal 7
+refusal_7 = record { not_done = λ e. omega (arith, e); not_unread = λ e. omega (arith, e); not_cut = λ e. omega (arith, e); not_starved = λ e. omega (arith, e) }
+
+refusal_8 : IsRefusal 8
+refusal_8 = record { not_done = λ e. omega (arith, e); not_unread = λ e. omega (arith, e); not_cut = λ e. omega (arith, e); not_starved = λ e. omega (arith, e) }
+
+refusal_9 : IsRefusal 9
+refusal_9 = record { not_done = λ e. omega (arith, e); not_unread = λ e. omega (arith, e); not_cut = λ e. omega (arith, e); not_starved = λ e. omega (arith, e) }
+
+pub refusal_13 : IsRefusal 13
+refusal_13 = record { not_done = λ e. omega (arith, e); not_unread = λ e. omega (arith, e); not_cut = λ e. omega (arith, e); not_starved = λ e. omega (arith, e) }
+
+pub way_of : (story : Story) (disk : Disk) (out err : Stream) (kept : List TaggedMemory) (end : Result Unit Failure) → EndsAs story disk out err kept end → Way story disk out err kept end
+way_of story disk out err kept (Ok _) ends = Done refl ends
+way_of story disk out err kept (Err Usage) ends = Refused Usage refl refusal_2 ends
+way_of story disk out err kept (Err NoFile) ends = Refused NoFile refl refusal_3 ends
+way_of story disk out err kept (Err (Malformed check at)) ends = Refused (Malformed check at) refl refusal_4 ends
+way_of story disk out err kept (Err (Unsupported check at)) ends = Refused (Unsupported check at) refl refusal_5 ends
+way_of story disk out err kept (Err (Unresolved name)) ends = Refused (Unresolved name) refl refusal_6 ends
+way_of story disk out err kept (Err (Inexact name base len)) ends = Refused (Inexact name base len) refl refusal_7 ends
+way_of story disk out err kept (Err (Full asked)) ends = Refused (Full asked) refl refusal_8 ends
+way_of story disk out err kept (Err (Limit check)) ends = Refused (Limit check) refl refusal_9 ends
+way_of story disk out err kept (Err ReadFault) ends = Unread refl ends
+way_of story disk out err kept (Err WriteFault) ends = CutShort refl ends
+way_of story disk out err kept (Err NoMemory) ends = Starved refl ends
+way_of story disk out err kept (Err NotBuilt) ends = Refused NotBuilt refl refusal_13 ends
+
+-- the statuses tell the failures apart
+pub status_usage : (failure : Failure) → status_of failure ≡ 2 → failure ≡ Usage
+status_usage Usage is = refl
+status_usage NoFile is = absurd (omega (arith, is))
+status_usage (Malformed check at) is = absurd (omega (arith, is))
+status_usage (Unsupported check at) is = absurd (omega (arith, is))
+status_usage (Unresolved name) is = absurd (omega (arith, is))
+status_usage (Inexact name base len) is = absurd (omega (arith, is))
+status_usage (Full asked) is = absurd (omega (arith, is))
+status_usage (Limit check) is = absurd (omega (arith, is))
+status_usage ReadFault is = absurd (omega (arith, is))
+status_usage WriteFault is = absurd (omega (arith, is))
+status_usage NoMemory is = absurd (omega (arith, is))
+status_usage NotBuilt is = absurd (omega (arith, is))
+
+pub status_not_built : (failure : Failure) → status_of failure ≡ 13 → failure ≡ NotBuilt
+status_not_built Usage is = absurd (omega (arith, is))
+status_not_built NoFile is = absurd (omega (arith, is))
+status_not_built (Malformed check at) is = absurd (omega (arith, is))
+status_not_built (Unsupported check at) is = absurd (omega (arith, is))
+status_not_built (Unresolved name) is = absurd (omega (arith, is))
+status_not_built (Inexact name base len) is = absurd (omega (arith, is))
+status_not_built (Full asked) is = absurd (omega (arith, is))
+status_not_built (Limit check) is = absurd (omega (arith, is))
+status_not_built ReadFault is = absurd (omega (arith, is))
+status_not_built WriteFault is = absurd (omega (arith, is))
+status_not_built NoMemory is = absurd (omega (arith, is))
+status_not_built NotBuilt is = refl

@@ -1,14 +1,16 @@
 -- What a run leaves, and the causes of its answers.
-use Rattle.std.specs.Prelude.{◌≡◌, ◌≢◌, ◌<◌, ◌⊎◌, ◌↔◌, ℕ, List, [], Option, IfSome, Result, Ok, Err}
+use Rattle.std.specs.Prelude.{◌≡◌, ◌≢◌, ◌<◌, ◌≤◌, ◌⊎◌, ℕ, Bool, List, [], ◌∷◌, ◌++◌, flat_map, codes, Option, Some, None, IfSome, Result, Ok, Err}
 use Rattle.std.specs.Io.KnownBytes.{Appends}
-use Rattle.cap_base.specs.Check.{number_of}
-use Rattle.cap_base.specs.Outside.{Store, file_in, Rose, AppendsFront}
-use Rattle.cap_base.specs.declared.check.Check.TheVariants.{PathLength}
+use Rattle.cap_base.specs.Outside.{Store, file_in, with_file, Rose, AppendsFront}
+use Rattle.cap_base.specs.SaveFile.{WritesFront}
+use Rattle.cap_mem.specs.Tagged.{TaggedMemory}
+use Rattle.cap_image.specs.Writing.{image_of, image_bytes}
+use Rattle.cap_session.specs.declared.refusal.OpenRefusal.{OpenRefusal}
 use Rattle.purecap.specs.declared.faults.Failure.{Failure}
 use Rattle.purecap.specs.declared.faults.Failure.TheVariants.{Usage, Limit, ReadFault, WriteFault, NoMemory, NotBuilt}
-use Rattle.purecap.specs.Faults.{status_of, line_of}
-use Rattle.purecap.specs.Words.{Command, Show, command_of}
-use Rattle.purecap.specs.Answer.{Answer, shown, answer_to}
+use Rattle.purecap.specs.Faults.{failure_of, status_of, line_of}
+use Rattle.purecap.specs.Words.{Command, Show, Load, LoadWords, command_of}
+use Rattle.purecap.specs.Answer.{Product, Printed, Saved, Stop, stop_at, Story, stopped, show_story, load_story, note_lines, lines_before, Answer, answer_to}
 
 -- a count of faults, before a run and after it
 pub record Count : Type 0 where
@@ -21,11 +23,24 @@ pub record Stream : Type 0 where
   pub new : Option (List ℕ)
   pub faults : Count
 
+-- a store, before a run and after it: its files, the file that is being written, and its counts of faults
+pub record Disk : Type 0 where
+  pub old : Option Store
+  pub new : Option Store
+  pub old_writing : Option (List ℕ × List ℕ)
+  pub writing : Option (List ℕ × List ℕ)
+  pub reads : Count
+  pub writes : Count
+
 abbrev pub counted : ℕ → ℕ → Count
 counted before now = record { before = before; now = now }
 
 abbrev pub streamed : Option (List ℕ) → Option (List ℕ) → ℕ → ℕ → Stream
 streamed old new before now = record { old = old; new = new; faults = counted before now }
+
+abbrev pub stored : Option Store → Option Store → Option (List ℕ × List ℕ) → Option (List ℕ × List ℕ) → Count → Count → Disk
+stored old new old_writing writing reads writes =
+    record { old = old; new = new; old_writing = old_writing; writing = writing; reads = reads; writes = writes }
 
 -- the count is as before
 abbrev pub IsKept : Count → Type 0
@@ -55,112 +70,214 @@ abbrev pub Outputs : Stream → List ℕ → Result Unit Failure → Type 0
 Outputs out bytes (Ok _) = IsWritten out bytes
 Outputs out bytes (Err failure) = (failure ≡ WriteFault) × IsCut out bytes
 
--- the answer's bytes stand on standard output
-pub record IsDone (answer : Result (List ℕ) Failure) (reads : Count) (out : Stream) : Type 0 where
-  pub bytes : List ℕ
-  pub defined : answer ≡ Ok bytes
-  pub written : IsWritten out bytes
-  pub reads_kept : IsKept reads
+-- these lines were written, or a front of them where a write failed; where there is none, nothing was
+abbrev pub Says : Stream → List (List ℕ) → Type 0
+Says err [] = IsStill err
+Says err (line ∷ lines) = IsWritten err (line ++ flat_map (λ l. l) lines) ⊎ IsCut err (line ++ flat_map (λ l. l) lines)
 
--- a front of the answer's bytes stands on standard output
-pub record IsCutShort (answer : Result (List ℕ) Failure) (reads : Count) (out : Stream) : Type 0 where
-  pub bytes : List ℕ
-  pub defined : answer ≡ Ok bytes
-  pub written : IsCut out bytes
-  pub reads_kept : IsKept reads
+-- no file was created, and no write failed
+pub record IsUntouched (disk : Disk) : Type 0 where
+  pub files : disk.new ≡ disk.old
+  pub writing : disk.writing ≡ disk.old_writing
+  pub count : IsKept disk.writes
 
--- the answer is this failure
-pub record IsRefused (answer : Result (List ℕ) Failure) (failure : Failure) (reads : Count) (out : Stream) : Type 0 where
-  pub defined : answer ≡ Err failure
+-- the store has one file more, where it tells its files
+pub record IsEntered (disk : Disk) (name bytes : List ℕ) : Type 0 where
+  pub files : IfSome disk.old (λ store. (disk.new ≡ Some (with_file store name bytes)) × (disk.writing ≡ None))
+  pub count : IsKept disk.writes
+
+-- the store has the files that it had; what is being written, if anything, is a front of the bytes under this name
+pub record IsBroken (disk : Disk) (name bytes : List ℕ) : Type 0 where
+  pub files : IfSome disk.old (λ store. (disk.new ≡ Some store) × WritesFront disk.writing name bytes)
+  pub rose : HasRisen disk.writes
+
+-- nothing was created or written, and nothing is kept
+pub record IsNothing (disk : Disk) (out : Stream) (kept : List TaggedMemory) : Type 0 where
+  pub untouched : IsUntouched disk
   pub still : IsStill out
-  pub reads_kept : IsKept reads
+  pub none : kept ≡ []
 
--- a read failed
-pub record IsUnread (reads : Count) (out : Stream) : Type 0 where
-  pub still : IsStill out
-  pub rose : HasRisen reads
+-- the product was given whole
+abbrev pub IsGiven : Product → Disk → Stream → List TaggedMemory → Type 0
+IsGiven (Printed output) disk out kept = IsUntouched disk × IsWritten out output × (kept ≡ [])
+IsGiven (Saved name bytes memories) disk out kept = IsEntered disk name bytes × IsStill out × (kept ≡ memories)
 
--- memory ran out
-pub record IsStarved (reads : Count) (out : Stream) : Type 0 where
-  pub still : IsStill out
-  pub reads_kept : IsKept reads
+-- a front of the product was given, and then a write failed
+abbrev pub IsGivenPart : Product → Disk → Stream → List TaggedMemory → Type 0
+IsGivenPart (Printed output) disk out kept = IsUntouched disk × IsCut out output × (kept ≡ [])
+IsGivenPart (Saved name bytes memories) disk out kept = IsBroken disk name bytes × IsStill out × (kept ≡ [])
 
--- how a command ends of which this is the answer: as the answer says, unless a count rose or memory ran out
-abbrev pub EndsAs : Result (List ℕ) Failure → Count → Stream → Result Unit Failure → Type 0
-EndsAs answer reads out (Ok _) = IsDone answer reads out
-EndsAs answer reads out (Err ReadFault) = IsUnread reads out
-EndsAs answer reads out (Err WriteFault) = IsCutShort answer reads out
-EndsAs answer reads out (Err NoMemory) = IsStarved reads out
-EndsAs answer reads out (Err failure) = IsRefused answer failure reads out
+-- where a product goes: standard output is `-`
+abbrev pub target_of : Product → List ℕ
+target_of (Printed output) = codes "-"
+target_of (Saved name bytes memories) = name
+
+-- the story came to its end
+pub record IsDone (story : Story) (disk : Disk) (out err : Stream) (kept : List TaggedMemory) : Type 0 where
+  pub product : Product
+  pub defined : story.«end» ≡ Ok product
+  pub given : IsGiven product disk out kept
+  pub says : Says err (note_lines story.notes)
+  pub reads_kept : IsKept disk.reads
+
+-- a write failed at its end
+pub record IsCutShort (story : Story) (disk : Disk) (out err : Stream) (kept : List TaggedMemory) : Type 0 where
+  pub product : Product
+  pub defined : story.«end» ≡ Ok product
+  pub given : IsGivenPart product disk out kept
+  pub says : Says err (lines_before story.notes (target_of product) WriteFault)
+  pub reads_kept : IsKept disk.reads
+
+-- the story ends with this failure
+pub record IsRefused (story : Story) (failure : Failure) (disk : Disk) (out err : Stream) (kept : List TaggedMemory) : Type 0 where
+  pub path : List ℕ
+  pub defined : story.«end» ≡ Err (stop_at path failure)
+  pub nothing : IsNothing disk out kept
+  pub says : Says err (lines_before story.notes path failure)
+  pub reads_kept : IsKept disk.reads
+
+-- a read failed, behind the calls with these notes
+pub record IsUnread (story : Story) (disk : Disk) (out err : Stream) (kept : List TaggedMemory) : Type 0 where
+  pub told : List OpenRefusal
+  pub later : List OpenRefusal
+  pub notes : story.notes ≡ told ++ later
+  pub path : List ℕ
+  pub nothing : IsNothing disk out kept
+  pub says : Says err (lines_before told path ReadFault)
+  pub rose : HasRisen disk.reads
+
+-- memory ran out, behind the calls with these notes
+pub record IsStarved (story : Story) (disk : Disk) (out err : Stream) (kept : List TaggedMemory) : Type 0 where
+  pub told : List OpenRefusal
+  pub later : List OpenRefusal
+  pub notes : story.notes ≡ told ++ later
+  pub nothing : IsNothing disk out kept
+  pub says : Says err (lines_before told [] NoMemory)
+  pub reads_later : disk.reads.before ≤ disk.reads.now
+
+-- how a command ends of which this is the story: as the story does, unless a count rose or memory ran out
+abbrev pub EndsAs : Story → Disk → Stream → Stream → List TaggedMemory → Result Unit Failure → Type 0
+EndsAs story disk out err kept (Ok _) = IsDone story disk out err kept
+EndsAs story disk out err kept (Err ReadFault) = IsUnread story disk out err kept
+EndsAs story disk out err kept (Err WriteFault) = IsCutShort story disk out err kept
+EndsAs story disk out err kept (Err NoMemory) = IsStarved story disk out err kept
+EndsAs story disk out err kept (Err failure) = IsRefused story failure disk out err kept
+
+-- the count of failed reads is as before where memory ran out
+abbrev pub IsCalm : Count → Result Unit Failure → Type 0
+IsCalm reads end = end ≡ Err NoMemory → IsKept reads
 
 -- how `show` ends, whether the store tells its files or not: there is something that it has under the name of the image,
 -- or nothing, and that decides
-pub record Shows (told : Option Store) (image : List ℕ) (reads : Count) (out : Stream) (end : Result Unit Failure) : Type 0 where
+pub record Shows (image : List ℕ) (disk : Disk) (out err : Stream) (kept : List TaggedMemory) (end : Result Unit Failure) : Type 0 where
   pub file : Option (List ℕ)
-  pub is_file : IfSome told (λ store. file ≡ file_in store image)
-  pub ends : EndsAs (shown file) reads out end
+  pub is_file : IfSome disk.old (λ store. file ≡ file_in store image)
+  pub ends : EndsAs (show_story image file) disk out err kept end
+  pub calm : IsCalm disk.reads end
 
--- how a run ends: as its command does; words that are no command touch nothing
-abbrev pub Ends : Result Command Failure → Option Store → Count → Stream → Result Unit Failure → Type 0
-Ends (Ok (Show image)) told reads out end = Shows told image reads out end
-Ends (Err failure) told reads out end = (end ≡ Err failure) × IsStill out × IsKept reads
+-- what `load` can come to: a file of this name that is the image of the memories, or the refusal of a start or a call
+abbrev pub IsLoaded : List ℕ → Result Product Stop → Type 0
+IsLoaded image (Ok (Printed output)) = ⊥
+IsLoaded image (Ok (Saved name bytes memories)) =
+    (name ≡ image) × ((names : List (List ℕ × Bool)) × (symbols : List (List (List ℕ × Bool))) × (bytes ≡ image_bytes (image_of names symbols memories)))
+IsLoaded image (Err stop) = (refusal : OpenRefusal) × (stop ≡ stop_at refusal.path (failure_of refusal.cause))
 
--- the file that a line names
-abbrev pub path_of : Result Command Failure → List ℕ
-path_of (Ok (Show image)) = image
-path_of (Err failure) = []
+-- how `load` ends: where the store tells its files, as these lead it
+pub record Loads (words : LoadWords) (disk : Disk) (out err : Stream) (kept : List TaggedMemory) (end : Result Unit Failure) : Type 0 where
+  pub story : Story
+  pub is_story : IfSome disk.old (λ store. story ≡ load_story words store)
+  pub loaded : IsLoaded words.image story.«end»
+  pub ends : EndsAs story disk out err kept end
 
--- the line was written, or a front of it where a write failed
-abbrev pub Says : Stream → List ℕ → Type 0
-Says err line = IsWritten err line ⊎ IsCut err line
+-- a failure of the words alone
+abbrev pub IsOfWords : Failure → Type 0
+IsOfWords Usage = Unit {0}
+IsOfWords (Limit check) = Unit {0}
+IsOfWords NotBuilt = Unit {0}
+IsOfWords failure = ⊥
 
--- an end writes its line, if it has one
-abbrev pub EndSays : Stream → List ℕ → Result Unit Failure → Type 0
-EndSays err path (Ok _) = IsStill err
-EndSays err path (Err failure) = Says err (line_of path failure)
+-- how a run ends whose words are no command: it touches nothing
+pub record Fails (failure : Failure) (disk : Disk) (out err : Stream) (kept : List TaggedMemory) (end : Result Unit Failure) : Type 0 where
+  pub is_end : ((end ≡ Err failure) × IsOfWords failure) ⊎ (end ≡ Err NoMemory)
+  pub ends : EndsAs (stopped [] failure) disk out err kept end
+  pub calm : IsCalm disk.reads end
+
+-- how a run ends: as its command does
+abbrev pub Ends : Result Command Failure → Disk → Stream → Stream → List TaggedMemory → Result Unit Failure → Type 0
+Ends (Ok (Show image)) disk out err kept end = Shows image disk out err kept end
+Ends (Ok (Load words)) disk out err kept end = Loads words disk out err kept end
+Ends (Err failure) disk out err kept end = Fails failure disk out err kept end
 
 abbrev pub end_status : Result Unit Failure → ℕ
 end_status (Ok _) = 0
 end_status (Err failure) = status_of failure
 
--- a run, over any store and any sinks: it ends in one way, which its status, standard output and the error output show
-pub record Runs (words : List (List ℕ)) (told : Option Store) (reads : Count) (out err : Stream) (status : ℕ) : Type 0 where
+-- a run, over any store and any sinks: it ends in one way, which its status, the store, standard output, the error output
+-- and the memories that are kept show
+pub record Runs (words : List (List ℕ)) (disk : Disk) (out err : Stream) (kept : List TaggedMemory) (status : ℕ) : Type 0 where
   pub end : Result Unit Failure
   pub is_status : status ≡ end_status end
-  pub ends : Ends (command_of words) told reads out end
-  pub says : EndSays err (path_of (command_of words)) end
+  pub ends : Ends (command_of words) disk out err kept end
 
--- a run gave this answer
-pub record Gave (answer : Answer) (out err : Stream) (status : ℕ) : Type 0 where
+-- the store with the file of an answer, if it has one
+abbrev pub with_answer : Store → Option (List ℕ × List ℕ) → Store
+with_answer store None = store
+with_answer store (Some file) = with_file store file.0 file.1
+
+-- a run over this store gave this answer
+pub record Gave (answer : Answer) (store : Store) (disk : Disk) (out err : Stream) (kept : List TaggedMemory) (status : ℕ) : Type 0 where
   pub is_status : status ≡ answer.status
   pub written : IsWritten out answer.output
-  pub says : Says err answer.line
+  pub says : Says err answer.lines
+  pub files : disk.new ≡ Some (with_answer store answer.file)
+  pub writes : IsKept disk.writes
+  pub memories : kept ≡ answer.kept
 
--- a run was to give this answer, and wrote a front of its bytes before a write failed
-pub record IsHalf (answer : Answer) (out err : Stream) (status : ℕ) : Type 0 where
+-- a run was to give this answer, and a write failed: the store has the files that it had
+pub record IsHalf (answer : Answer) (store : Store) (disk : Disk) (out err : Stream) (kept : List TaggedMemory) (status : ℕ) : Type 0 where
   pub is_status : status ≡ 11
   pub succeeds : answer.status ≡ 0
-  pub written : IsCut out answer.output
-  pub says : Says err (line_of [] WriteFault)
+  pub rose : HasRisen out.faults ⊎ HasRisen disk.writes
+  pub front : AppendsFront out.old out.new answer.output
+  pub files : disk.new ≡ Some store
+  pub writing : (disk.writing ≡ disk.old_writing) ⊎ ((name bytes : List ℕ) × (answer.file ≡ Some (name, bytes)) × WritesFront disk.writing name bytes)
+  pub path : List ℕ
+  pub says : Says err (answer.lines ++ line_of path WriteFault ∷ [])
+  pub memories : kept ≡ []
 
 -- over a store that tells its files, where no read failed and memory did not run out, a run gives the defined answer; it
--- may only be cut short, where the count of standard output rose
-abbrev pub Answers : List (List ℕ) → Option Store → Count → Stream → Stream → ℕ → Type 0
-Answers words told reads out err status =
-    IfSome told (λ store. (HasRisen reads → ⊥) → status ≢ 12 → Gave (answer_to words store) out err status ⊎ IsHalf (answer_to words store) out err status)
+-- may only be cut short, where the count of its output rose
+abbrev pub Answers : List (List ℕ) → Disk → Stream → Stream → List TaggedMemory → ℕ → Type 0
+Answers words disk out err kept status =
+    IfSome disk.old (λ store. (HasRisen disk.reads → ⊥) → status ≢ 12
+    → Gave (answer_to words store) store disk out err kept status ⊎ IsHalf (answer_to words store) store disk out err kept status)
+
+-- the count of the output to which a command writes
+abbrev pub output_count : Result Command Failure → Disk → Stream → Count
+output_count (Ok (Load words)) disk out = disk.writes
+output_count command disk out = out.faults
+
+-- `load` alone writes a file, keeps memories and passes over refusals, and it prints nothing
+abbrev pub IsAside : Result Command Failure → Disk → Stream → Stream → List TaggedMemory → ℕ → Type 0
+IsAside (Ok (Load words)) disk out err kept status = IsStill out
+IsAside command disk out err kept status = IsUntouched disk × (kept ≡ []) × (status ≡ 0 → IsStill err) × (status ≡ 12 → IsKept disk.reads)
 
 -- the causes of the answers, over any store and any sinks
-pub record HasCauses (words : List (List ℕ)) (reads : Count) (out err : Stream) (status : ℕ) : Type 0 where
-  -- the words alone decide these
-  pub usage : (status ≡ 2) ↔ (command_of words ≡ Err Usage)
-  pub not_built : (status ≡ 13) ↔ (command_of words ≡ Err NotBuilt)
-  pub long_path : command_of words ≡ Err (Limit (number_of PathLength)) → status ≡ 9
+pub record HasCauses (words : List (List ℕ)) (disk : Disk) (out err : Stream) (kept : List TaggedMemory) (status : ℕ) : Type 0 where
+  -- the words alone decide these; memory may run out instead
+  pub usage : status ≡ 2 → command_of words ≡ Err Usage
+  pub is_usage : command_of words ≡ Err Usage → (status ≡ 2) ⊎ (status ≡ 12)
+  pub not_built : status ≡ 13 → command_of words ≡ Err NotBuilt
+  pub is_not_built : command_of words ≡ Err NotBuilt → (status ≡ 13) ⊎ (status ≡ 12)
+  pub is_limit : (check : ℕ) → command_of words ≡ Err (Limit check) → (status ≡ 9) ⊎ (status ≡ 12)
   -- a read fault has its count, and where the count rose it is the answer, or want of memory
-  pub read_fault : status ≡ 10 → HasRisen reads
-  pub read_rose : reads.before < reads.now → (status ≡ 10) ⊎ (status ≡ 12)
+  pub read_fault : status ≡ 10 → HasRisen disk.reads
+  pub read_rose : disk.reads.before < disk.reads.now → (status ≡ 10) ⊎ (status ≡ 12)
   -- a write fault has its count, and where the count rose it is the answer
-  pub write_fault : status ≡ 11 → HasRisen out.faults
-  pub write_rose : out.faults.before < out.faults.now → status ≡ 11
-  -- nothing is written to standard output by other answers than 0 and 11, nor to the error output by 0
-  pub quiet : status ≢ 0 → status ≢ 11 → IsStill out
-  pub silent : status ≡ 0 → IsStill err
+  pub write_fault : status ≡ 11 → HasRisen (output_count (command_of words) disk out)
+  pub write_rose : (output_count (command_of words) disk out).before < (output_count (command_of words) disk out).now → status ≡ 11
+  -- no command touches the output of another
+  pub aside : IsAside (command_of words) disk out err kept status
+  -- nothing is created or written to standard output by other answers than 0 and 11, and nothing is kept but with 0
+  pub quiet : status ≢ 0 → status ≢ 11 → IsNothing disk out kept
+  pub none_kept : status ≢ 0 → kept ≡ []

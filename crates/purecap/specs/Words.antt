@@ -1,58 +1,233 @@
--- What the words of the command line ask for.
-use Rattle.std.specs.Prelude.{ℕ, Bool, not, nat_lt, ◌==◌, ◌&&◌, List, [], ◌∷◌, length, slice_index_or, codes, Result, Ok, Err, ◌≡◌, if◌then◌else◌}
+-- What the words of the command line ask for. Each command reads its words as `clap` does those of a simple command, and
+-- then come the rules of this program.
+use Rattle.std.specs.Prelude.{◌≡◌, ◌≤◌, ℕ, Bool, true, false, not, ◌&&◌, ◌||◌, ◌==◌, nat_lt, List, [], ◌∷◌, length, map, codes, Some, unwrap_or, Result, Ok, Err, if◌then◌else◌, All, string_bytes}
+use Rattle.std.specs.List.{list_any, before_first, after_first}
 use Rattle.std.specs.Str.{bytes_eq}
+use Rattle.clap.specs.Lexer.{usize_max}
+use Rattle.clap.specs.Simple.{App, new_app, new_rule, with_rule, matches_of}
+use Rattle.clap.specs.Faults.{fault_of}
+use Rattle.clap.specs.Kinds.{Kinds}
+use Rattle.clap.specs.Walk.{Row, Rule, Text, first_of, all_of}
+use Rattle.clap.specs.declared.builder.action.ArgAction.TheVariants.{SetTrue}
 use Rattle.cap_base.specs.Check.{number_of}
+use Rattle.cap_base.specs.Steps.{◌>>=◌, ◌>>◌, gather}
 use Rattle.cap_base.specs.Text.{is_plain}
-use Rattle.cap_base.specs.declared.check.Check.TheVariants.{PathLength}
+use Rattle.cap_base.specs.declared.check.Check.TheVariants.{PathLength, CallCount}
+use Rattle.cap_scope.specs.declared.choice.Rule.{Rule as LookUp}
+use Rattle.cap_scope.specs.declared.choice.Rule.TheVariants.{NonWeak, First}
+use Rattle.cap_session.specs.declared.form.Form.{Form}
+use Rattle.cap_session.specs.declared.form.Form.TheVariants as forms
+use Rattle.cap_session.specs.Calls.{Call}
+use Rattle.cap_session.specs.Mappings.{IsName}
 use Rattle.purecap.specs.declared.faults.Failure.{Failure}
+use Rattle.purecap.specs.declared.faults.Failure.TheVariants.{Usage, Limit, NoMemory, NotBuilt}
 use Rattle.purecap.specs.declared.words.Command.{Command as Given}
 use Rattle.purecap.specs.declared.words.Command.TheVariants as given
-use Rattle.purecap.specs.declared.faults.Failure.TheVariants.{Usage, Limit, NotBuilt}
+use Rattle.purecap.specs.declared.words.LoadWords.{LoadWords as GivenLoad}
+use Rattle.purecap.specs.declared.words.CallWord.{CallWord}
+
+-- what `load` is asked for
+pub record LoadWords : Type 0 where
+  pub image : List ℕ
+  pub dir : List ℕ
+  pub rule : LookUp
+  pub main : List ℕ
+  pub calls : List Call
 
 -- what the program is asked for
 pub data Command : Type 0 where
   Show : List ℕ → Command
+  Load : LoadWords → Command
 
--- begins with a dash and is longer
-abbrev pub is_option : List ℕ → Bool
-is_option word = nat_lt 1 (length word) && slice_index_or word 0 0 == 45
+-- ---- the command lines
 
--- a path: not empty, of printable ASCII characters
-abbrev pub is_path : List ℕ → Bool
+-- a word in a place of its own, which must be there
+abbrev pub operand : Text → Rule
+operand id = record (new_rule id) { required = true }
+
+-- the words behind all other operands, as many as there are
+abbrev pub last_operands : Text → Rule
+last_operands id = record (new_rule id) { range = Some (record { start_inclusive = 1; end_inclusive = usize_max }) }
+
+-- a value behind a letter, which must be there, or is `value` where it is not; it is there once at most
+abbrev pub required_option : Text → ℕ → Rule
+required_option id letter = record (new_rule id) { short = Some letter; required = true }
+
+abbrev pub option_or : Text → ℕ → Text → Rule
+option_or id letter value = record (new_rule id) { short = Some letter; defaults = value ∷ [] }
+
+-- a word that is there or is not
+abbrev pub flag : Text → Rule
+flag id = record (new_rule id) { long = Some id; action = Some SetTrue }
+
+-- `show IMAGE`
+unfoldable pub show_app : App
+show_app = with_rule (new_app (codes "show")) (operand (codes "image"))
+
+-- `load -o IMAGE [-L DIR] [--first-found] MAIN [CALL...]`
+unfoldable pub load_app : App
+load_app =
+    with_rule (with_rule (with_rule (with_rule (with_rule (new_app (codes "load"))
+    (required_option (codes "image") 0x6f)) (option_or (codes "dir") 0x4c (codes "."))) (flag (codes "first-found")))
+    (operand (codes "main"))) (last_operands (codes "call"))
+
+-- the matches of words that have no fault; a call for help is one
+abbrev pub unless_faulty : Kinds → List Row → Result (List Row) Failure
+unless_faulty [] rows = Ok rows
+unless_faulty (kind ∷ kinds) rows = Err Usage
+
+-- what the words give to each argument
+unfoldable pub parsed : App → List Text → Result (List Row) Failure
+parsed app words = unless_faulty (fault_of app words) (matches_of app words)
+
+-- the one value of an argument, and all its values
+abbrev pub value_of : List Row → Text → Text
+value_of rows id = unwrap_or (first_of id rows) []
+
+abbrev pub values_of : List Row → Text → List Text
+values_of rows id = unwrap_or (all_of id rows) []
+
+-- ---- the rules of this program
+
+abbrev pub refuse : Bool → Failure → Result (Unit {0}) Failure
+refuse true failure = Err failure
+refuse false failure = Ok tt
+
+-- a path has printable ASCII characters alone, and is not empty; a name has no slash either
+abbrev pub is_path : Text → Bool
 is_path word = nat_lt 0 (length word) && is_plain word
 
--- no word behind this one is an option (POSIX, utility syntax guideline 10)
-abbrev pub ends_options : List ℕ → Bool
-ends_options word = bytes_eq word (codes "--")
+abbrev pub has_slash : Text → Bool
+has_slash word = list_any (λ byte. byte == 0x2f) word
 
--- `show` of the image that a word names
-abbrev pub show_image : List ℕ → Result Command Failure
-show_image image = if not (is_path image) then Err Usage else (if nat_lt 255 (length image) then Err (Limit (number_of PathLength)) else Ok (Show image))
+abbrev pub is_name : Text → Bool
+is_name word = is_path word && not (has_slash word)
 
--- the same where an option could stand, of which `show` has none
-abbrev pub show_operand : List ℕ → Result Command Failure
-show_operand word = if is_option word then Err Usage else show_image word
+-- longer than a path or a name may be
+abbrev pub is_long : Text → Bool
+is_long word = nat_lt 255 (length word)
 
--- two words, of which one ends the options
-abbrev pub show_pair : List ℕ → List ℕ → Result Command Failure
-show_pair first second =
-    if ends_options first then show_image second else (if ends_options second then show_operand first else Err Usage)
+abbrev pub too_long : Failure
+too_long = Limit (number_of PathLength)
 
--- `IMAGE`, `-- IMAGE` or `IMAGE --`
-abbrev pub show_words : List (List ℕ) → Result Command Failure
-show_words (image ∷ []) = show_operand image
-show_words (first ∷ second ∷ []) = show_pair first second
-show_words words = Err Usage
+-- the form of a call, by what stands before the colon
+abbrev pub form_of : Text → Result Form Failure
+form_of word =
+    if bytes_eq word (codes "open") then Ok forms.Open
+    else (if bytes_eq word (codes "global") then Ok forms.Global
+    else (if bytes_eq word (codes "try") then Ok forms.Try
+    else Err Usage))
 
--- what the words ask for: `show` alone is built
-unfoldable pub command_of : List (List ℕ) → Result Command Failure
+-- `open:NAME`, `global:NAME` or `try:NAME`
+unfoldable pub call_of : Text → Result Call Failure
+call_of word = do
+  form ← form_of (before_first (λ byte. byte == 0x3a) word)
+  let name = after_first (λ byte. byte == 0x3a) word
+  refuse (not (is_name name)) Usage >> Ok (record { form = form; name = name })
+
+-- `show` of the image in this file
+unfoldable pub show_of : Text → Result Command Failure
+show_of image =
+    refuse (not (is_path image)) Usage
+    >> refuse (is_long image) too_long
+    >> Ok (Show image)
+
+-- the name of a call is too long
+abbrev pub has_long_name : List Call → Bool
+has_long_name calls = list_any (λ call. is_long call.name) calls
+
+-- `load` of a program that was asked for in this form
+unfoldable pub load_of : LoadWords → Result Command Failure
+load_of asked =
+    refuse (not (is_path asked.image)) Usage
+    >> refuse (not (is_path asked.dir)) Usage
+    >> refuse (not (is_path asked.main)) Usage
+    >> refuse (is_long asked.image) too_long
+    >> refuse (is_long asked.dir) too_long
+    >> refuse (is_long asked.main) too_long
+    >> refuse (has_long_name asked.calls) too_long
+    >> refuse (nat_lt 64 (length asked.calls)) (Limit (number_of CallCount))
+    >> Ok (Load asked)
+
+-- the rule by which definitions are chosen
+abbrev pub rule_of : List Row → LookUp
+rule_of rows = if bytes_eq (value_of rows (codes "first-found")) (codes "true") then First else NonWeak
+
+-- what the arguments of `load` say
+abbrev pub asked_by : List Row → List Call → LoadWords
+asked_by rows calls = record {
+  image = value_of rows (codes "image");
+  dir = value_of rows (codes "dir");
+  rule = rule_of rows;
+  main = value_of rows (codes "main");
+  calls = calls;
+}
+
+unfoldable pub show_words : List Text → Result Command Failure
+show_words words = do
+  rows ← parsed show_app words
+  show_of (value_of rows (codes "image"))
+
+unfoldable pub load_words : List Text → Result Command Failure
+load_words words = do
+  rows ← parsed load_app words
+  calls ← gather call_of (values_of rows (codes "call"))
+  load_of (asked_by rows calls)
+
+-- what words of this command ask for
+abbrev pub command_by : Text → List Text → Result Command Failure
+command_by command words =
+    if bytes_eq command (codes "show") then show_words words
+    else (if bytes_eq command (codes "load") then load_words words
+    else (if bytes_eq command (codes "link") || bytes_eq command (codes "demo") then Err NotBuilt
+    else Err Usage))
+
+-- what the words ask for: the first names the command, and stands for the program's name before the others
+unfoldable pub command_of : List Text → Result Command Failure
 command_of [] = Err Usage
-command_of (command ∷ words) = if bytes_eq command (codes "show") then show_words words else Err NotBuilt
+command_of (command ∷ words) = command_by command (command ∷ words)
 
--- the command that the program was given
+-- ---- the command that the program was given
+
+abbrev pub call_meant : CallWord → Call
+call_meant word = record { form = word.form; name = string_bytes word.name }
+
+abbrev pub load_meant : GivenLoad → LoadWords
+load_meant words = record {
+  image = string_bytes words.image;
+  dir = string_bytes words.dir;
+  rule = words.rule;
+  main = string_bytes words.main;
+  calls = map call_meant words.calls.items;
+}
+
 abbrev pub meaning : Given → Command
-meaning (given.Show image) = Show image.now
+meaning (given.Show image) = Show (string_bytes image)
+meaning (given.Load words) = Load (load_meant words)
 
-abbrev pub Meant : Result Given Failure → Result Command Failure → Type 0
-Meant (Ok given) said = said ≡ Ok (meaning given)
-Meant (Err failure) said = said ≡ Err failure
+-- memory ran out, or the failure is the one that is said here
+abbrev pub FailsAs : {Y : Type 0} → Failure → Result Y Failure → Type 0
+FailsAs NoMemory said = Unit {0}
+FailsAs failure said = said ≡ Err failure
+
+-- a call gives, seen by view, the value or the failure that is said here; memory may run out instead
+abbrev pub Meant : {X Y : Type 0} → (X → Y) → Result X Failure → Result Y Failure → Type 0
+Meant view (Ok x) said = said ≡ Ok (view x)
+Meant view (Err failure) said = FailsAs failure said
+
+-- ---- what holds of each command that is accepted
+
+-- a name without a slash
+abbrev pub IsCallName : Call → Type 0
+IsCallName call = IsName call.name × (has_slash call.name ≡ false)
+
+pub record IsLoad (asked : LoadWords) : Type 0 where
+  pub image : IsName asked.image
+  pub dir : IsName asked.dir
+  pub main : IsName asked.main
+  pub names : All IsCallName asked.calls
+  pub few : length asked.calls ≤ 64
+
+abbrev pub IsAccepted : Command → Type 0
+IsAccepted (Show image) = IsName image
+IsAccepted (Load asked) = IsLoad asked

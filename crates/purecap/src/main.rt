@@ -5,7 +5,8 @@
 //! its words and files, and only a counted fault of the outside or want of memory stands in the place of it.
 //!
 //! - `given` takes the words from the system, and `words` says what they ask for; then each command has a function of
-//!   its own, `show` in `showing`.
+//!   its own: `show` in `showing`, `load` in `loading`. What is hard about `load` is that the refusals of calls may be
+//!   passed over: each has its line at once, and all calls speak of the same files, since no call changes the store.
 //! - `faults` has the status and the line of each failure. A line is written without memory.
 //! - `disk` has the real files and streams, the one part that is trusted: they tell no contents, so over them only the
 //!   causes by counts are proved.
@@ -16,6 +17,9 @@
 mod disk;
 mod faults;
 mod given;
+mod loading;
+#[cfg(test)]
+mod objects;
 mod running;
 mod showing;
 #[cfg(test)]
@@ -36,5 +40,13 @@ fn main(rt: HostRuntime) -> ExitCode {
     let mut files = DiskFiles::new(&rt);
     let mut out = StdSink::new(rt.stdout());
     let mut err = StdSink::new(rt.stderr());
-    ExitCode::from(run(rt.alloc(), &words, &mut files, &mut out, &mut err))
+    let mut kept = Vec::new(rt.alloc());
+    ExitCode::from(run(
+        rt.alloc(),
+        &words,
+        &mut files,
+        &mut out,
+        &mut err,
+        &mut kept,
+    ))
 }

@@ -1,90 +1,151 @@
 //! A run of the program: from its words to its status.
 
-ghost use Rattle.std.specs.Prelude.{◌≡◌};
-ghost use Rattle.purecap.specs.Run.{counted, streamed, Runs, Answers, HasCauses, EndSays, end_status};
+ghost use Rattle.std.specs.Prelude.{◌≡◌, []};
+ghost use Rattle.purecap.specs.Words.{command_of as command_in};
+ghost use Rattle.purecap.specs.Printing.{shown_path as shown_path_in};
+ghost use Rattle.purecap.specs.Run.{counted, streamed, stored, Disk, IsUntouched, IsKept, Runs, Answers, HasCauses, Ends, Shows, end_status as status_of_end};
 
 use crate::faults::Failure;
+use crate::loading::load;
 use crate::showing::show;
 use crate::words::{Command, command_of};
 use cap_base::{Files, Sink, Words};
+use cap_mem::Memory;
 use std::alloc::Global;
 
 /// Does what the words ask for, and answers the status of the process.
 ///
-/// Where the command fails, one line on the error output says why; a fault of the error output changes nothing else.
+/// Where the command fails, the last line on the error output says why; a fault of the error output changes nothing
+/// else. Where `load` answers 0, `kept` holds the memories of the loaded objects, in load order; else it is empty.
 pub fn run<F: Files, O: Sink, E: Sink>(
     alloc: Global,
     words: &Words,
     files: &mut F,
     out: &mut O,
     err: &mut E,
+    kept: &mut Vec<Memory>,
 ) -> u8
-    ensures runs { Runs words.now (F.told files.old)
+    requires { kept.old.items ≡ [] }
+    ensures runs { Runs words.now
+        (stored (F.told files.old) (F.told files.new) (F.writing files.old) (F.writing files.new)
         (counted (F.read_faults files.old) (F.read_faults files.new))
+        (counted (F.write_faults files.old) (F.write_faults files.new)))
         (streamed (O.told out.old) (O.told out.new) (O.faults out.old) (O.faults out.new))
         (streamed (E.told err.old) (E.told err.new) (E.faults err.old) (E.faults err.new))
-        result }
+        kept.new.items result }
 
     // Over a store that tells its files, it gives the answer that the words and the files define.
-    ensures answers { Answers words.now (F.told files.old)
+    ensures answers { Answers words.now
+        (stored (F.told files.old) (F.told files.new) (F.writing files.old) (F.writing files.new)
         (counted (F.read_faults files.old) (F.read_faults files.new))
+        (counted (F.write_faults files.old) (F.write_faults files.new)))
         (streamed (O.told out.old) (O.told out.new) (O.faults out.old) (O.faults out.new))
         (streamed (E.told err.old) (E.told err.new) (E.faults err.old) (E.faults err.new))
-        result }
+        kept.new.items result }
 
     // Over any store, each answer has its cause.
     ensures causes { HasCauses words.now
+        (stored (F.told files.old) (F.told files.new) (F.writing files.old) (F.writing files.new)
         (counted (F.read_faults files.old) (F.read_faults files.new))
+        (counted (F.write_faults files.old) (F.write_faults files.new)))
         (streamed (O.told out.old) (O.told out.new) (O.faults out.old) (O.faults out.new))
         (streamed (E.told err.old) (E.told err.new) (E.faults err.old) (E.faults err.new))
-        result }
-
-    // It changes nothing of the store but its count of failed reads.
-    ensures same_told { F.told files.new ≡ F.told files.old }
-    ensures same_writing { F.writing files.new ≡ F.writing files.old }
-    ensures write_count { F.write_faults files.new ≡ F.write_faults files.old }
+        kept.new.items result }
 {
-    perform(alloc, words, files, out, err)
+    perform(alloc, words, files, out, err, kept)
 }
 
-// Reads the words, does what they ask for, and says how it ended.
+// Does what the words ask for, and gives the status of its end.
 fn perform<F: Files, O: Sink, E: Sink>(
     alloc: Global,
     words: &Words,
     files: &mut F,
     out: &mut O,
     err: &mut E,
+    kept: &mut Vec<Memory>,
 ) -> u8
-    ensures runs { Runs words.now (F.told files.old)
+    requires { kept.old.items ≡ [] }
+    ensures { Runs words.now
+        (stored (F.told files.old) (F.told files.new) (F.writing files.old) (F.writing files.new)
         (counted (F.read_faults files.old) (F.read_faults files.new))
+        (counted (F.write_faults files.old) (F.write_faults files.new)))
         (streamed (O.told out.old) (O.told out.new) (O.faults out.old) (O.faults out.new))
         (streamed (E.told err.old) (E.told err.new) (E.faults err.old) (E.faults err.new))
-        result }
-    ensures same_told { F.told files.new ≡ F.told files.old }
-    ensures same_writing { F.writing files.new ≡ F.writing files.old }
-    ensures write_count { F.write_faults files.new ≡ F.write_faults files.old }
+        kept.new.items result }
 {
-    match command_of(words) {
-        Ok(Command::Show { image }) => {
-            let end = show(alloc, image, files, out);
-            finish(err, image.as_bytes(), end)
-        }
-        Err(failure) => finish(err, b"", Err(failure)),
-    }
+    let end = act(alloc, words, files, out, err, kept);
+    end_status(&end)
 }
 
-// Writes the line of a failure over the file of this path, and gives the status.
-fn finish<E: Sink>(err: &mut E, path: &[u8], end: Result<(), Failure>) -> u8
-    ensures status { result ≡ end_status end }
-    ensures says { EndSays
-        (streamed (E.told err.old) (E.told err.new) (E.faults err.old) (E.faults err.new))
-        path.now end }
+// The status of an end.
+fn end_status(end: &Result<(), Failure>) -> u8
+    ensures { result ≡ status_of_end end.now }
 {
     match end {
         Ok(()) => 0,
+        Err(failure) => failure.status(),
+    }
+}
+
+// Reads the words, and does what they ask for. A failure has its line.
+fn act<F: Files, O: Sink, E: Sink>(
+    alloc: Global,
+    words: &Words,
+    files: &mut F,
+    out: &mut O,
+    err: &mut E,
+    kept: &mut Vec<Memory>,
+) -> Result<(), Failure>
+    requires { kept.old.items ≡ [] }
+    ensures { Ends (command_in words.now)
+        (stored (F.told files.old) (F.told files.new) (F.writing files.old) (F.writing files.new)
+        (counted (F.read_faults files.old) (F.read_faults files.new))
+        (counted (F.write_faults files.old) (F.write_faults files.new)))
+        (streamed (O.told out.old) (O.told out.new) (O.faults out.old) (O.faults out.new))
+        (streamed (E.told err.old) (E.told err.new) (E.faults err.old) (E.faults err.new))
+        kept.new.items result }
+{
+    match command_of(alloc, words) {
+        Ok(Command::Show { image }) => show_told(alloc, image.as_str(), files, out, err),
+        Ok(Command::Load(words)) => load(alloc, &words, files, err, kept),
         Err(failure) => {
-            let _ = failure.tell(err, path);
-            failure.status()
+            let _ = failure.tell(err, b"");
+            Err(failure)
         }
+    }
+}
+
+// Shows an image. A failure is told.
+fn show_told<F: Files, O: Sink, E: Sink>(
+    alloc: Global,
+    image: &str,
+    files: &mut F,
+    out: &mut O,
+    err: &mut E,
+) -> Result<(), Failure>
+    ensures { Shows image.now
+        (stored (F.told files.old) (F.told files.new) (F.writing files.old) (F.writing files.new)
+        (counted (F.read_faults files.old) (F.read_faults files.new))
+        (counted (F.write_faults files.old) (F.write_faults files.new)))
+        (streamed (O.told out.old) (O.told out.new) (O.faults out.old) (O.faults out.new))
+        (streamed (E.told err.old) (E.told err.new) (E.faults err.old) (E.faults err.new))
+        [] result }
+{
+    match show(alloc, image, files, out) {
+        Ok(()) => Ok(()),
+        Err(failure) => {
+            let _ = failure.tell(err, shown_path(image, &failure));
+            Err(failure)
+        }
+    }
+}
+
+// The file that the line of a failure names: the image, or standard output.
+fn shown_path<'a>(image: &'a str, failure: &Failure) -> &'a [u8]
+    ensures { result.now ≡ shown_path_in image.now failure.now }
+{
+    match failure {
+        Failure::WriteFault => b"-",
+        _ => image.as_bytes(),
     }
 }

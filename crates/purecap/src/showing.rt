@@ -4,13 +4,14 @@ ghost use Rattle.std.specs.Prelude.{◌≡◌, MatchResult, Ok};
 ghost use Rattle.cap_image.specs.Reading.{read_image};
 ghost use Rattle.purecap.specs.Answer.{report_in};
 ghost use Rattle.purecap.specs.Reading.{IsOfCheck, IsFailureOf, unaccepted, unread};
-ghost use Rattle.purecap.specs.Run.{counted, streamed, Outputs, Shows};
+ghost use Rattle.purecap.specs.Run.{counted, streamed, Outputs};
+ghost use Rattle.purecap.specs.Printing.{Prints};
 
 use crate::faults::Failure;
 use cap_base::{Check, FileRefusal, Files, Refusal, Sink, read_file, send};
 use std::alloc::Global;
 
-const LARGEST_IMAGE: u64 = 1 << 27;
+const LARGEST_IMAGE: u64 = 1 << 31;
 
 /// Writes the report of the image in this file.
 ///
@@ -22,7 +23,7 @@ pub fn show<F: Files, O: Sink>(
     files: &mut F,
     out: &mut O,
 ) -> Result<(), Failure>
-    ensures ends { Shows (F.told files.old) image.now
+    ensures ends { Prints (F.told files.old) image.now
         (counted (F.read_faults files.old) (F.read_faults files.new))
         (streamed (O.told out.old) (O.told out.new) (O.faults out.old) (O.faults out.new))
         result }

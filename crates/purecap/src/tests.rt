@@ -1,7 +1,9 @@
 //! The program over files in memory.
 
+use crate::objects;
 use crate::running::run;
 use cap_base::{MemFiles, MemSink, NoMemory, Words};
+use cap_mem::Memory;
 use std::alloc::Global;
 use std::process::Abort;
 use std::test::Fail;
@@ -79,10 +81,7 @@ fn check(
     outside: Outside,
     want: (u8, &str, &str),
 ) -> Result<(), NoMemory> {
-    let mut given = Words::new(alloc);
-    for word in words {
-        given.push(word)?;
-    }
+    let given = words_of(alloc, words)?;
     let most = outside.most.max(1);
     let mut files = MemFiles::new(alloc);
     files.put("i", image)?;
@@ -94,12 +93,81 @@ fn check(
     let mut err = MemSink::new(alloc);
     err.fail(outside.err)?;
     err.short(most);
-    let status = run(alloc, &given, &mut files, &mut out, &mut err);
+    let mut kept = Vec::new(alloc);
+    let status = run(alloc, &given, &mut files, &mut out, &mut err, &mut kept);
     assert_eq!(rt; status, want.0);
     assert_eq!(rt; out.bytes(), want.1.as_bytes());
     assert_eq!(rt; err.bytes(), want.2.as_bytes());
+    assert!(rt; kept.is_empty());
     Ok(())
 }
+
+fn words_of(alloc: Global, words: &[&str]) -> Result<Words, NoMemory> {
+    let mut given = Words::new(alloc);
+    for word in words {
+        given.push(word)?;
+    }
+    Ok(given)
+}
+
+// The status and the error output of a `load`: the memories that it keeps.
+fn load(
+    rt: &impl Abort,
+    alloc: Global,
+    words: &[&str],
+    files: &mut MemFiles,
+    want: (u8, &str),
+) -> Result<Vec<Memory>, NoMemory> {
+    let given = words_of(alloc, words)?;
+    let mut out = MemSink::new(alloc);
+    let mut err = MemSink::new(alloc);
+    let mut kept = Vec::new(alloc);
+    let status = run(alloc, &given, files, &mut out, &mut err, &mut kept);
+    assert_eq!(rt; status, want.0);
+    assert!(rt; out.bytes().is_empty());
+    assert_eq!(rt; err.bytes(), want.1.as_bytes());
+    assert_eq!(rt; kept.is_empty(), status != 0);
+    Ok(kept)
+}
+
+// The report of the image `i`.
+fn report(
+    rt: &impl Abort,
+    alloc: Global,
+    files: &mut MemFiles,
+    want: &str,
+) -> Result<(), NoMemory> {
+    let given = words_of(alloc, &["show", "i"])?;
+    let mut out = MemSink::new(alloc);
+    let mut err = MemSink::new(alloc);
+    let mut kept = Vec::new(alloc);
+    let status = run(alloc, &given, files, &mut out, &mut err, &mut kept);
+    assert_eq!(rt; status, 0);
+    assert_eq!(rt; out.bytes(), want.as_bytes());
+    Ok(())
+}
+
+// A program of two files with its library, and a library that it opens.
+fn user_files(alloc: Global) -> Result<MemFiles, NoMemory> {
+    let mut files = MemFiles::new(alloc);
+    files.put("app", &objects::program(alloc)?)?;
+    files.put("lib/libh.so", &objects::helper_library(alloc)?)?;
+    files.put("lib/libp.so", &objects::count_library(alloc)?)?;
+    Ok(files)
+}
+
+const USER_WORDS: [&str; 7] = ["load", "-o", "i", "-L", "lib", "app", "open:libp.so"];
+
+const USER_REPORT: &str = "object 0x0000000040000000 0x0000000000005000 app
+object 0x0000000040005000 0x0000000000003000 libh.so
+object 0x0000000040008000 0x0000000000003000 libp.so
+cap 0x00000000400020c0 base 0x0000000040003000 top 0x00000000040003020 cursor 0x0000000040003000 perms 007d flag 0 unsealed owner 0 symbol -
+cap 0x00000000400020d0 base 0x0000000040005000 top 0x00000000040008000 cursor 0x0000000040006000 perms 0017 flag 1 sentry owner 1 symbol helper
+cap 0x0000000040003000 base 0x000000004000032e top 0x00000000040000334 cursor 0x000000004000032e perms 0015 flag 0 unsealed owner 0 symbol -
+cap 0x0000000040003010 base 0x00000000400043b0 top 0x000000000400043b8 cursor 0x00000000400043b0 perms 007d flag 0 unsealed owner 0 symbol -
+cap 0x000000004000a000 base 0x00000000400043b0 top 0x000000000400043b8 cursor 0x00000000400043b0 perms 007d flag 0 unsealed owner 0 symbol count
+objects 3 words 5
+";
 
 #[test]
 fn images_are_shown(rt: HostRuntime) -> Result<(), Fail> {
@@ -245,14 +313,220 @@ fn words_are_read(rt: HostRuntime) -> Result<(), Fail> {
     check(&rt, alloc, &["show", "--", "-x"], &EMPTY, CALM, option)?;
     let dash = (3, "", "purecap: -: no such file\n");
     check(&rt, alloc, &["show", "-"], &EMPTY, CALM, dash)?;
-    let other = (13, "", "purecap: not built\n");
-    check(&rt, alloc, &["load", "i"], &EMPTY, CALM, other)?;
-    check(&rt, alloc, &["-"], &EMPTY, CALM, other)?;
     let mut long = String::new(alloc);
     for _ in 0..256u32 {
         long.push('a')?;
     }
     let limit = (9, "", "purecap: limit path or name\n");
     check(&rt, alloc, &["show", long.as_str()], &EMPTY, CALM, limit)?;
+    Ok(())
+}
+
+#[test]
+fn a_program_is_loaded(rt: HostRuntime) -> Result<(), Fail> {
+    let alloc = rt.alloc();
+    let mut files = user_files(alloc)?;
+    let kept = load(&rt, alloc, &USER_WORDS, &mut files, (0, ""))?;
+    assert!(&rt; kept.len() == 3);
+    assert_eq!(&rt; kept[0].tagged(0x4000_0000), Some(0x4000_20c0));
+    assert_eq!(&rt; kept[1].tagged(0x4000_0000), None);
+    report(&rt, alloc, &mut files, USER_REPORT)?;
+    Ok(())
+}
+
+// The bytes of the image that these words give.
+fn loaded_image(
+    rt: &impl Abort,
+    alloc: Global,
+    words: &[&str],
+    files: &mut MemFiles,
+    line: &str,
+) -> Result<Vec<u8>, NoMemory> {
+    load(rt, alloc, words, files, (0, line))?;
+    let mut image = Vec::new(alloc);
+    image.extend_from_slice(files.bytes("i").unwrap_or(b""))?;
+    Ok(image)
+}
+
+fn user_image(rt: &impl Abort, alloc: Global) -> Result<Vec<u8>, NoMemory> {
+    let mut files = user_files(alloc)?;
+    loaded_image(rt, alloc, &USER_WORDS, &mut files, "")
+}
+
+fn short_image(rt: &impl Abort, alloc: Global, most: usize) -> Result<Vec<u8>, NoMemory> {
+    let mut files = user_files(alloc)?;
+    files.short(most.max(1));
+    loaded_image(rt, alloc, &USER_WORDS, &mut files, "")
+}
+
+const TRY_WORDS: [&str; 8] = [
+    "load",
+    "-o",
+    "i",
+    "-L",
+    "lib",
+    "app",
+    "try:gone.so",
+    "open:libp.so",
+];
+
+fn tried_image(rt: &impl Abort, alloc: Global) -> Result<Vec<u8>, NoMemory> {
+    let mut files = user_files(alloc)?;
+    let line = "purecap: lib/gone.so: no such file\n";
+    loaded_image(rt, alloc, &TRY_WORDS, &mut files, line)
+}
+
+#[test]
+fn an_image_is_the_same_by_short_calls_and_behind_a_refused_try(
+    rt: HostRuntime,
+) -> Result<(), Fail> {
+    let alloc = rt.alloc();
+    let image = user_image(&rt, alloc)?;
+    assert_eq!(&rt; image.len(), 45_578);
+    assert!(&rt; short_image(&rt, alloc, 1)? == image);
+    assert!(&rt; short_image(&rt, alloc, 7)? == image);
+    assert!(&rt; tried_image(&rt, alloc)? == image);
+    Ok(())
+}
+
+// The user's program, where this call of the store fails: how many bytes of the image were written, if any.
+fn failing_load(
+    rt: &impl Abort,
+    alloc: Global,
+    call: u64,
+    want: (u8, &str),
+) -> Result<Option<usize>, NoMemory> {
+    let mut files = user_files(alloc)?;
+    files.fail(call)?;
+    load(rt, alloc, &USER_WORDS, &mut files, want)?;
+    match files.bytes("i") {
+        Some(bytes) => Ok(Some(bytes.len())),
+        None => Ok(None),
+    }
+}
+
+#[test]
+fn each_call_of_the_store_fails(rt: HostRuntime) -> Result<(), Fail> {
+    let alloc = rt.alloc();
+    for call in 1..13u64 {
+        let want = match call {
+            1..=3 => (10, "purecap: app: read fault\n"),
+            4..=6 => (10, "purecap: lib/libh.so: read fault\n"),
+            7..=9 => (10, "purecap: lib/libp.so: read fault\n"),
+            _ => (11, "purecap: i: write fault\n"),
+        };
+        let left = match call {
+            11 => Some(0),
+            12 => Some(45_578),
+            _ => None,
+        };
+        assert_eq!(&rt; failing_load(&rt, alloc, call, want)?, left);
+    }
+    Ok(())
+}
+
+// An object with one byte changed.
+fn changed(mut bytes: Vec<u8>, at: usize, byte: u8) -> Vec<u8> {
+    if let Some(slot) = bytes.get_mut(at) {
+        *slot = byte;
+    }
+    bytes
+}
+
+const LOAD_M: [&str; 4] = ["load", "-o", "i", "m"];
+
+// The object is refused with this status and line.
+fn refused(
+    rt: &impl Abort,
+    alloc: Global,
+    object: &[u8],
+    want: (u8, &str),
+) -> Result<(), NoMemory> {
+    let mut files = MemFiles::new(alloc);
+    files.put("m", object)?;
+    load(rt, alloc, &LOAD_M, &mut files, want)?;
+    assert!(rt; files.bytes("i").is_none());
+    Ok(())
+}
+
+// The library of the user's program with one byte changed is refused with this status and line.
+fn changed_refused(
+    rt: &impl Abort,
+    alloc: Global,
+    at: usize,
+    byte: u8,
+    want: (u8, &str),
+) -> Result<(), NoMemory> {
+    let object = changed(objects::helper_library(alloc)?, at, byte);
+    refused(rt, alloc, &object, want)
+}
+
+// The same, cut to so many bytes.
+fn cut_refused(
+    rt: &impl Abort,
+    alloc: Global,
+    len: usize,
+    want: (u8, &str),
+) -> Result<(), NoMemory> {
+    let mut object = objects::helper_library(alloc)?;
+    object.truncate(len);
+    refused(rt, alloc, &object, want)
+}
+
+#[test]
+fn broken_objects_are_refused(rt: HostRuntime) -> Result<(), Fail> {
+    let alloc = rt.alloc();
+    let header = (4, "purecap: m: malformed file header at 0x3f\n");
+    cut_refused(&rt, alloc, 63, header)?;
+    let range = (4, "purecap: m: malformed segment range at 0xb0\n");
+    cut_refused(&rt, alloc, 0x2fff, range)?;
+    let class = (5, "purecap: m: unsupported class at 0x4\n");
+    changed_refused(&rt, alloc, 4, 1, class)?;
+    let order = (4, "purecap: m: malformed segment order at 0x78\n");
+    changed_refused(&rt, alloc, 0x89, 0, order)?;
+    let end = (4, "purecap: m: malformed dynamic end at 0x2000\n");
+    changed_refused(&rt, alloc, 0x2060, 14, end)?;
+    let chain = (4, "purecap: m: malformed hash chain at 0x1c0\n");
+    changed_refused(&rt, alloc, 0x1d0, 1, chain)?;
+    Ok(())
+}
+
+const GOOD_ALONE: &str = "object 0x0000000040000000 0x0000000000004000 app
+object 0x0000000040004000 0x0000000000004000 good.so
+objects 2 words 0
+";
+
+#[test]
+fn a_refused_call_ends_the_run_unless_it_is_tried(rt: HostRuntime) -> Result<(), Fail> {
+    let alloc = rt.alloc();
+    let mut files = MemFiles::new(alloc);
+    files.put("app", &objects::plain_object(alloc)?)?;
+    files.put("lib/good.so", &objects::defines_g(alloc)?)?;
+    files.put("lib/bad.so", &objects::unbound_library(alloc)?)?;
+    let gone = "purecap: lib/bad.so: unresolved gone\n";
+    let opens = [
+        "load",
+        "-o",
+        "i",
+        "-L",
+        "lib",
+        "app",
+        "open:good.so",
+        "open:bad.so",
+    ];
+    load(&rt, alloc, &opens, &mut files, (6, gone))?;
+    assert!(&rt; files.bytes("i").is_none());
+    let tries = [
+        "load",
+        "-o",
+        "i",
+        "-L",
+        "lib",
+        "app",
+        "open:good.so",
+        "try:bad.so",
+    ];
+    load(&rt, alloc, &tries, &mut files, (0, gone))?;
+    report(&rt, alloc, &mut files, GOOD_ALONE)?;
     Ok(())
 }

@@ -1,0 +1,96 @@
+-- How words are refused: as no command, as a command that is not built, or at a limit.
+use Rattle.std.proofs.Common.{◌≡◌, Bool, true, false, cond, List, [], ◌∷◌, codes, Result, Ok, Err, refl}
+use Rattle.std.specs.Prelude.{◌||◌, not, nat_lt, length}
+use Rattle.std.specs.List.{before_first, after_first}
+use Rattle.std.specs.Prelude.{◌==◌}
+use Rattle.std.specs.Str.{bytes_eq}
+use Rattle.clap.specs.Faults.{fault_of}
+use Rattle.clap.specs.Kinds.{Kinds}
+use Rattle.clap.specs.Simple.{App, matches_of}
+use Rattle.clap.specs.Walk.{Row, Text}
+use Rattle.cap_base.specs.Check.{number_of}
+use Rattle.cap_base.specs.Steps.{◌>>=◌, ◌>>◌, gather}
+use Rattle.cap_base.specs.declared.check.Check.TheVariants.{CallCount}
+use Rattle.cap_session.specs.declared.form.Form.TheVariants as forms
+use Rattle.purecap.specs.declared.faults.Failure.{Failure}
+use Rattle.purecap.specs.declared.faults.Failure.TheVariants.{Usage, Limit, NotBuilt}
+use Rattle.purecap.specs.Words.{Show, Load, LoadWords, asked_by, call_of, command_of, form_of, has_long_name, is_long, is_name, is_path, load_app, load_of, load_words, parsed, refuse, show_app, show_of, show_words, too_long, unless_faulty, value_of, values_of}
+use Rattle.purecap.proofs.Ways.{is_of_words, or_fails}
+
+abbrev Fits : {A : Type 0} → Result A Failure → Type 0
+Fits r = or_fails is_of_words r ≡ true
+
+bind_fails : {A B : Type 0} (r : Result A Failure) (f : A → Result B Failure) → Fits r → ((x : A) → Fits (f x)) → Fits (r >>= f)
+bind_fails (Ok x) f h more = more x
+bind_fails (Err e) f h more = h
+
+then_fails : {B : Type 0} (u : Result (Unit {0}) Failure) (r : Result B Failure) → Fits u → Fits r → Fits (u >> r)
+then_fails (Ok v) r h more = more
+then_fails (Err e) r h more = h
+
+refuse_fails : (fails : Bool) (failure : Failure) → is_of_words failure ≡ true → Fits (refuse fails failure)
+refuse_fails true failure h = h
+refuse_fails false failure h = refl
+
+choice_fails : {A : Type 0} (b : Bool) (x y : Result A Failure) → Fits x → Fits y → Fits (cond b x y)
+choice_fails true x y xs ys = xs
+choice_fails false x y xs ys = ys
+
+faulty_fails : (kinds : Kinds) (rows : List Row) → Fits (unless_faulty kinds rows)
+faulty_fails [] rows = refl
+faulty_fails (kind ∷ kinds) rows = refl
+
+parsed_fails : (app : App) (words : List Text) → Fits (parsed app words)
+unfolding parsed
+parsed_fails app words = faulty_fails (fault_of app words) (matches_of app words)
+
+form_fails : (word : Text) → Fits (form_of word)
+form_fails word =
+    choice_fails (bytes_eq word (codes "open")) (Ok forms.Open) _ refl (choice_fails (bytes_eq word (codes "global")) (Ok forms.Global) _ refl (choice_fails (bytes_eq word (codes "try")) (Ok forms.Try) (Err Usage) refl refl))
+
+call_fails : (word : Text) → Fits (call_of word)
+unfolding call_of
+call_fails word =
+    let name = after_first (λ byte. byte == 0x3a) word in
+    bind_fails (form_of (before_first (λ byte. byte == 0x3a) word)) _ (form_fails (before_first (λ byte. byte == 0x3a) word))
+    (λ form. then_fails (refuse (not (is_name name)) Usage) (Ok (record { form = form; name = name })) (refuse_fails (not (is_name name)) Usage refl) refl)
+
+calls_fail : (words : List Text) → Fits (gather call_of words)
+calls_fail [] = refl
+calls_fail (word ∷ words) = bind_fails (call_of word) _ (call_fails word) (λ y. bind_fails (gather call_of words) _ (calls_fail words) (λ ys. refl))
+
+show_fails : (image : Text) → Fits (show_of image)
+unfolding show_of
+show_fails image =
+    then_fails _ (Ok (Show image)) (then_fails (refuse (not (is_path image)) Usage) (refuse (is_long image) too_long) (refuse_fails (not (is_path image)) Usage refl) (refuse_fails (is_long image) too_long refl)) refl
+
+load_fails : (asked : LoadWords) → Fits (load_of asked)
+unfolding load_of
+load_fails asked =
+    let image = refuse_fails (not (is_path asked.image)) Usage refl in
+    let dir = then_fails _ _ image (refuse_fails (not (is_path asked.dir)) Usage refl) in
+    let main = then_fails _ _ dir (refuse_fails (not (is_path asked.main)) Usage refl) in
+    let short_image = then_fails _ _ main (refuse_fails (is_long asked.image) too_long refl) in
+    let short_dir = then_fails _ _ short_image (refuse_fails (is_long asked.dir) too_long refl) in
+    let short_main = then_fails _ _ short_dir (refuse_fails (is_long asked.main) too_long refl) in
+    let short_names = then_fails _ _ short_main (refuse_fails (has_long_name asked.calls) too_long refl) in
+    let few = then_fails _ _ short_names (refuse_fails (nat_lt 64 (length asked.calls)) (Limit (number_of CallCount)) refl) in
+    then_fails _ (Ok (Load asked)) few refl
+
+show_words_fail : (words : List Text) → Fits (show_words words)
+unfolding show_words
+show_words_fail words = bind_fails (parsed show_app words) _ (parsed_fails show_app words) (λ rows. show_fails (value_of rows (codes "image")))
+
+load_words_fail : (words : List Text) → Fits (load_words words)
+unfolding load_words
+load_words_fail words =
+    bind_fails (parsed load_app words) _ (parsed_fails load_app words) (λ rows.
+    bind_fails (gather call_of (values_of rows (codes "call"))) _ (calls_fail (values_of rows (codes "call"))) (λ calls. load_fails (asked_by rows calls)))
+
+pub words_fail : (words : List Text) → or_fails is_of_words (command_of words) ≡ true
+unfolding command_of
+words_fail [] = refl
+words_fail (first ∷ words) =
+    choice_fails (bytes_eq first (codes "show")) (show_words (first ∷ words)) _ (show_words_fail (first ∷ words))
+    (choice_fails (bytes_eq first (codes "load")) (load_words (first ∷ words)) _ (load_words_fail (first ∷ words))
+    (choice_fails (bytes_eq first (codes "link") || bytes_eq first (codes "demo")) (Err NotBuilt) (Err Usage) refl refl))

@@ -1,0 +1,14 @@
+use Rattle.std.proofs.Common.{refl}
+use Rattle.purecap.proofs.Said.{first_line}
+use Rattle.purecap.proofs.Ended.{fails_of}
+use Rattle.purecap.proofs.WordFaults.{words_fail}
+use Rattle.purecap.proofs.running.act.Goals as goal
+
+pub returns-in-Ok-Show : goal.returns-in-Ok-Show
+returns-in-Ok-Show g c = rw ((c.in-Ok-Show.ensures {u = tt}).meaning, c.in-Ok-Show.field-0-is, c.requires) (rw c.as_str.ensures.value at c.show_told.ensures)
+
+pub returns-in-Err : goal.returns-in-Err
+returns-in-Err g c =
+    let failed = c.in-Err.ensures {u = tt} in
+    fails_of _ _ _ _ (record { untouched = record { files = refl; writing = refl; count = refl }; still = record { bytes = refl; count = refl }; none = c.requires }) refl _ _ failed.meaning (words_fail _)
+    (first_line _ _ _ _ _ _ c.tell.ensures)

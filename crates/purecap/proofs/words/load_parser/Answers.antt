@@ -1,0 +1,14 @@
+use Rattle.std.proofs.Common.{ap₂, ◌∙◌}
+use Rattle.clap.specs.Words.{with_rule}
+use Rattle.purecap.specs.Words.{load_app}
+use Rattle.purecap.proofs.words.load_parser.Goals as goal
+
+pub returns-clause-ok : goal.returns-clause-ok
+unfolding load_app
+returns-clause-ok c =
+    c.in_ok-arg.ensures.shape c.last_operands.ensures.local
+    ∙ ap₂ with_rule (c.in_ok-command-4.ensures.shape c.operand.ensures.local
+    ∙ ap₂ with_rule (c.in_ok-command-3.ensures.shape c.flag.ensures.local
+    ∙ ap₂ with_rule (c.in_ok-command-2.ensures.shape c.option_or.ensures.local
+    ∙ ap₂ with_rule (c.in_ok-command.ensures.shape c.required_option.ensures.local
+    ∙ ap₂ with_rule c.new-command.ensures.app c.required_option.ensures.rule) c.option_or.ensures.rule) c.flag.ensures.rule) c.operand.ensures.rule) c.last_operands.ensures.rule

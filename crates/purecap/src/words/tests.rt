@@ -1,0 +1,255 @@
+//! Words of the command line, and what they ask for.
+
+use super::{Command, LoadWords, command_of};
+use crate::faults::Failure;
+use cap_base::{NoMemory, Words, check_text};
+use cap_scope::Rule;
+use cap_session::Form;
+use std::alloc::Global;
+use std::process::Abort;
+use std::test::Fail;
+
+// Words with a bar between two of them, and what they ask for.
+const ROWS: [(&str, &str); 64] = [
+    ("show|i", "show i"),
+    ("show", "usage"),
+    ("show|i|i", "usage"),
+    ("show|", "usage"),
+    ("show|-x", "usage"),
+    ("show|-", "show -"),
+    ("show|--", "usage"),
+    ("show|--|i", "show i"),
+    ("show|i|--", "show i"),
+    ("show|--|-x", "show -x"),
+    ("show|--|--", "show --"),
+    ("show|a b", "show a b"),
+    ("show|i\u{7f}", "usage"),
+    ("show|\u{fc}", "usage"),
+    ("show|-h", "usage"),
+    ("show|--help", "usage"),
+    ("show|--version", "usage"),
+    ("load", "usage"),
+    ("load|app", "usage"),
+    ("load|-o|i", "usage"),
+    ("load|-o|i|app", "load i . strong app"),
+    ("load|-oi|app", "load i . strong app"),
+    ("load|-o=i|app", "load i . strong app"),
+    ("load|app|-o|i", "load i . strong app"),
+    ("load|-o|i|-L|lib|app", "load i lib strong app"),
+    ("load|-Llib|-oi|app", "load i lib strong app"),
+    ("load|-o|i|-L|app", "usage"),
+    ("load|-o|i|app|-L", "usage"),
+    ("load|-o|i|-o|j|app", "usage"),
+    ("load|-o|i|-L|a|-L|b|app", "usage"),
+    ("load|-o|i|--first-found|app", "load i . first app"),
+    ("load|-o|i|--first-found|--first-found|app", "usage"),
+    ("load|-o|i|--first-found=x|app", "usage"),
+    ("load|-o|i|--first|app", "usage"),
+    ("load|-o|i|app|open:a.so", "load i . strong app open:a.so"),
+    (
+        "load|-o|i|app|open:a|global:b|try:c",
+        "load i . strong app open:a global:b try:c",
+    ),
+    (
+        "load|m|open:a|-o|i|open:b",
+        "load i . strong m open:a open:b",
+    ),
+    ("load|-o|i|app|close:a.so", "usage"),
+    ("load|-o|i|app|lazy:a.so", "usage"),
+    ("load|-o|i|app|Open:a", "usage"),
+    ("load|-o|i|app|open", "usage"),
+    ("load|-o|i|app|:a", "usage"),
+    ("load|-o|i|app|open:", "usage"),
+    ("load|-o|i|app|global:a/b", "usage"),
+    ("load|-o|i|app|try:a\u{7f}", "usage"),
+    ("load|-o|i|app|open:a:b", "load i . strong app open:a:b"),
+    ("load|-o|i|-L|lib/x|bin/app", "load i lib/x strong bin/app"),
+    ("load|-o||app", "usage"),
+    ("load|-o|i|-L||app", "usage"),
+    ("load|-o|i|", "usage"),
+    ("load|-o|i|--|-app|open:a", "load i . strong -app open:a"),
+    ("load|-o|i|app|--|open:a", "load i . strong app open:a"),
+    ("load|-o|-|app", "load - . strong app"),
+    ("load|-o|-x|app", "usage"),
+    ("load|-o|--|app", "usage"),
+    ("load|--help", "usage"),
+    ("load|-o|i|app|-h", "usage"),
+    ("link", "not built"),
+    ("link|-o|a", "not built"),
+    ("demo|1", "not built"),
+    ("-", "usage"),
+    ("--help", "usage"),
+    ("help", "usage"),
+    ("Load|-o|i|app", "usage"),
+];
+
+// What was asked for, as one text.
+fn said(alloc: Global, asked: &Result<Command, Failure>) -> Result<String, NoMemory> {
+    match asked {
+        Ok(command) => said_command(alloc, command),
+        Err(failure) => said_failure(alloc, failure),
+    }
+}
+
+fn said_failure(alloc: Global, failure: &Failure) -> Result<String, NoMemory> {
+    match failure {
+        Failure::Usage => joined(alloc, "usage", ""),
+        Failure::NotBuilt => joined(alloc, "not built", ""),
+        Failure::Limit { check } => joined(alloc, "limit ", check_text(*check)),
+        _ => joined(alloc, "another failure", ""),
+    }
+}
+
+fn said_command(alloc: Global, command: &Command) -> Result<String, NoMemory> {
+    match command {
+        Command::Show { image } => joined(alloc, "show ", image.as_str()),
+        Command::Load(words) => said_load(alloc, words),
+    }
+}
+
+fn said_load(alloc: Global, words: &LoadWords) -> Result<String, NoMemory> {
+    let mut text = joined(alloc, "load ", words.image.as_str())?;
+    push_both(&mut text, " ", words.dir.as_str())?;
+    push_both(&mut text, rule_text(words.rule), words.main.as_str())?;
+    for call in &words.calls {
+        push_both(&mut text, form_text(call.form), call.name.as_str())?;
+    }
+    Ok(text)
+}
+
+fn rule_text(rule: Rule) -> &'static str {
+    match rule {
+        Rule::First => " first ",
+        Rule::NonWeak => " strong ",
+    }
+}
+
+fn form_text(form: Form) -> &'static str {
+    match form {
+        Form::Open => " open:",
+        Form::Global => " global:",
+        Form::Try => " try:",
+    }
+}
+
+fn push_both(text: &mut String, first: &str, second: &str) -> Result<(), NoMemory> {
+    text.push_str(first)?;
+    text.push_str(second)?;
+    Ok(())
+}
+
+fn joined(alloc: Global, first: &str, second: &str) -> Result<String, NoMemory> {
+    let mut text = String::from_str(alloc, first)?;
+    text.push_str(second)?;
+    Ok(text)
+}
+
+fn check(rt: &impl Abort, alloc: Global, words: &Words, want: &str) -> Result<(), NoMemory> {
+    let asked = command_of(alloc, words);
+    let got = said(alloc, &asked)?;
+    assert_eq!(rt; got.as_str(), want);
+    Ok(())
+}
+
+// Checks the words of this line.
+fn check_line(rt: &impl Abort, alloc: Global, line: &str, want: &str) -> Result<(), NoMemory> {
+    let mut words = Words::new(alloc);
+    for word in line.split('|') {
+        words.push(word)?;
+    }
+    check(rt, alloc, &words, want)
+}
+
+#[test]
+fn words_are_read(rt: HostRuntime) -> Result<(), Fail> {
+    let alloc = rt.alloc();
+    check(&rt, alloc, &Words::new(alloc), "usage")?;
+    for (line, want) in ROWS {
+        check_line(&rt, alloc, line, want)?;
+    }
+    Ok(())
+}
+
+// `load` of three paths, with so many calls of one name.
+#[derive(Clone, Copy)]
+struct Asked<'a> {
+    paths: [&'a str; 3],
+    name: &'a str,
+    count: usize,
+}
+
+fn words_of(alloc: Global, asked: Asked<'_>) -> Result<Words, NoMemory> {
+    let mut words = Words::new(alloc);
+    let [image, dir, main] = asked.paths;
+    for word in ["load", "-o", image, "-L", dir, main] {
+        words.push(word)?;
+    }
+    let mut call = String::from_str(alloc, "open:")?;
+    call.push_str(asked.name)?;
+    for _ in 0..asked.count {
+        words.push(call.as_str())?;
+    }
+    Ok(words)
+}
+
+fn check_load(
+    rt: &impl Abort,
+    alloc: Global,
+    asked: Asked<'_>,
+    want: &str,
+) -> Result<(), NoMemory> {
+    check(rt, alloc, &words_of(alloc, asked)?, want)
+}
+
+#[test]
+fn the_longest_words_are_read(rt: HostRuntime) -> Result<(), Fail> {
+    let alloc = rt.alloc();
+    let mut longest = String::new(alloc);
+    for _ in 0..255u32 {
+        longest.push('a')?;
+    }
+    let all = Asked {
+        paths: [longest.as_str(); 3],
+        name: longest.as_str(),
+        count: 64,
+    };
+    let words = words_of(alloc, all)?;
+    assert!(rt; command_of(alloc, &words).is_ok());
+    Ok(())
+}
+
+#[test]
+fn longer_words_are_refused(rt: HostRuntime) -> Result<(), Fail> {
+    let alloc = rt.alloc();
+    let mut longer = String::new(alloc);
+    for _ in 0..256u32 {
+        longer.push('a')?;
+    }
+    let long = longer.as_str();
+    let path = "limit path or name";
+    let rows = [
+        ([long, ".", "m"], "a", 0, path),
+        (["i", long, "m"], "a", 0, path),
+        (["i", ".", long], "a", 0, path),
+        (["i", ".", "m"], long, 1, path),
+        (["i", ".", "m"], "a", 65, "limit calls or inputs"),
+        (["i", long, "m"], "a", 65, path),
+        (["i", ".", "m"], "", 65, "usage"),
+    ];
+    for (paths, name, count, want) in rows {
+        let asked = Asked { paths, name, count };
+        check_load(&rt, alloc, asked, want)?;
+    }
+    Ok(())
+}
+
+#[test]
+fn a_longer_image_is_refused(rt: HostRuntime) -> Result<(), Fail> {
+    let alloc = rt.alloc();
+    let mut line = String::from_str(alloc, "show|")?;
+    for _ in 0..256u32 {
+        line.push('a')?;
+    }
+    check_line(&rt, alloc, line.as_str(), "limit path or name")?;
+    Ok(())
+}
