@@ -1,0 +1,97 @@
+#!/usr/bin/env python3
+"""Refuses each allocation of a run in turn: refused_memory.py PROGRAM.
+
+The program must answer as it does with ample memory, or 12; then it has created no file. A library of the C compiler
+that is loaded before the others refuses the allocation of the number that it is told. Skipped where there is no C
+compiler."""
+import os
+import shutil
+import subprocess
+import sys
+import tempfile
+from pathlib import Path
+
+EXAMPLES = Path(__file__).resolve().parent.parent / "examples"
+sys.path.insert(0, str(EXAMPLES))
+from make_program import app, libgreet, libplugin  # noqa: E402
+from shared_object import NOTYPE, Relocation, SharedObject, Symbol, written  # noqa: E402
+
+REFUSER = r"""
+#define _GNU_SOURCE
+#include <dlfcn.h>
+#include <errno.h>
+#include <stdio.h>
+#include <stdlib.h>
+static long count, refused;
+static int is_refused(void) {
+    if (!refused) { const char *given = getenv("REFUSED"); refused = given ? atol(given) : -1; }
+    return ++count == refused;
+}
+void *malloc(size_t n) {
+    static void *(*real)(size_t);
+    if (!real) real = dlsym(RTLD_NEXT, "malloc");
+    if (is_refused()) { errno = ENOMEM; return 0; }
+    return real(n);
+}
+void *realloc(void *old, size_t n) {
+    static void *(*real)(void *, size_t);
+    if (!real) real = dlsym(RTLD_NEXT, "realloc");
+    if (is_refused()) { errno = ENOMEM; return 0; }
+    return real(old, n);
+}
+__attribute__((destructor)) static void tell(void) {
+    const char *name = getenv("COUNTED");
+    FILE *file = name ? fopen(name, "w") : 0;
+    if (file) { fprintf(file, "%ld", count); fclose(file); }
+}
+"""
+
+bad = SharedObject(data=bytes(16), symbols=[Symbol("gone", kind=NOTYPE)], relocations=[Relocation(("data", 0), 1)])
+OBJECTS = {"app": app, "libgreet.so": libgreet, "libplugin.so": libplugin, "libbad.so": bad}
+RUNS = ["load -o app.img app open:libplugin.so", "load -o app.img app open:libplugin.so open:libbad.so",
+        "load -o app.img app try:libbad.so open:libplugin.so", "show shown.img"]
+
+
+def main() -> None:
+    program = str(Path(sys.argv[1]).resolve())
+    compiler = shutil.which("cc") or shutil.which("gcc") or shutil.which("clang")
+    if not compiler:
+        print("no C compiler: skipped")
+        return
+    wrong = 0
+    with tempfile.TemporaryDirectory() as name:
+        folder = Path(name)
+        folder.joinpath("refuser.c").write_text(REFUSER)
+        refuser = folder / "refuser.so"
+        subprocess.run([compiler, "-shared", "-fPIC", "-O2", "-o", str(refuser), str(folder / "refuser.c"), "-ldl"], check=True)
+        for file, made in OBJECTS.items():
+            folder.joinpath(file).write_bytes(written(made))
+        image = folder / "app.img"
+
+        def run(words: str, refused: int) -> tuple[int, bytes, bytes, bytes | None]:
+            image.unlink(missing_ok=True)
+            given = dict(os.environ, LD_PRELOAD=str(refuser), REFUSED=str(refused), COUNTED=str(folder / "counted"))
+            ended = subprocess.run([program, *words.split()], cwd=folder, env=given, capture_output=True)
+            return ended.returncode, ended.stdout, ended.stderr, image.read_bytes() if image.exists() else None
+
+        made = run(RUNS[0], -1)
+        folder.joinpath("shown.img").write_bytes(made[3] or b"")
+        for words in RUNS:
+            ample = run(words, -1)
+            total = int(folder.joinpath("counted").read_text())
+            same = starved = 0
+            for refused in range(1, total + 1):
+                ended = run(words, refused)
+                if ended == ample:
+                    same += 1
+                elif ended[0] == 12 and ended[1] == b"" and ended[3] is None:
+                    starved += 1
+                else:
+                    wrong += 1
+                    print(f"{words}, allocation {refused}: status {ended[0]}, {ended[2]!r}")
+            print(f"{words}: status {ample[0]}; of {total} allocations refused in turn, {starved} gave 12 and {same} changed nothing")
+    sys.exit(1 if wrong else 0)
+
+
+if __name__ == "__main__":
+    main()
