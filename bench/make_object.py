@@ -7,22 +7,8 @@ import struct
 import sys
 from pathlib import Path
 
-
-def gabi_hash(name: bytes) -> int:
-    h = 0
-    for byte in name:
-        h = (h * 16 + byte) & 0xFFFFFFFF
-        high = h & 0xF0000000
-        h = (h ^ high >> 24) & ~high
-    return h
-
-
-def hash_words(names: list[bytes]) -> list[int]:
-    buckets, chains = [0] * max(1, len(names) // 2), [0] * len(names)
-    for i, name in enumerate(names[1:], 1):
-        bucket = gabi_hash(name) % len(buckets)
-        chains[i], buckets[bucket] = buckets[bucket], i
-    return [len(buckets), len(names), *buckets, *chains]
+sys.path.insert(0, str(Path(__file__).resolve().parent.parent / "examples"))
+from shared_object import hash_words  # noqa: E402
 
 
 def shared_object(count: int) -> bytes:
@@ -33,7 +19,7 @@ def shared_object(count: int) -> bytes:
         strings += name + b"\0"
     symbols_at = 64 + 2 * 56
     hash_at = symbols_at + 24 * count
-    words = hash_words(names)
+    words = hash_words(names[1:])
     strings_at = hash_at + 4 * len(words)
     dynamic_at = (strings_at + len(strings) + 15) // 16 * 16
     dynamic = [(4, hash_at), (5, strings_at), (6, symbols_at), (10, len(strings)), (11, 24), (0, 0)]
