@@ -13,11 +13,11 @@ import shutil
 import subprocess
 import sys
 import tempfile
-import time
 from pathlib import Path
 
 sys.path.insert(0, str(Path(__file__).resolve().parent.parent / "examples"))
 from shared_object import NOTYPE, Relocation, SharedObject, Symbol, written  # noqa: E402
+from show import run  # noqa: E402
 
 OPENER = r"""
 #include <dlfcn.h>
@@ -52,18 +52,6 @@ def make(folder: Path, libraries: int, relocations: int) -> None:
         relocations=[Relocation(("data", 16 * i), i + 1) for i in range(len(names))],
         needed=[f"lib{library:02d}.so" for library in range(libraries)])
     folder.joinpath("m").write_bytes(written(main))
-
-
-def run(command: list[str], folder: Path) -> tuple[float, int]:
-    """Wall time in seconds and peak memory in bytes of one run."""
-    start = time.perf_counter()
-    child = subprocess.Popen(command, cwd=folder)
-    _, status, usage = os.wait4(child.pid, 0)
-    spent = time.perf_counter() - start
-    child.returncode = os.waitstatus_to_exitcode(status)
-    if child.returncode:
-        sys.exit(f"{command}: status {child.returncode}")
-    return spent, usage.ru_maxrss * 1024
 
 
 def opened(folder: Path, libraries: int, relocations: int, runs: int) -> str:
@@ -107,7 +95,7 @@ def main() -> None:
             relocations = 1 << power
             make(folder, libraries, relocations)
             size = sum(file.stat().st_size for file in folder.iterdir())
-            results = [run([program, "load", "-o", "image", "m"], folder) for _ in range(given.runs)]
+            results = [run([program, "load", "-o", "image", "m"], Path(os.devnull), folder) for _ in range(given.runs)]
             seconds, peak = min(r[0] for r in results), max(r[1] for r in results)
             print(f"| {libraries} | 2^{power} | {size / 1e6:.1f} | {seconds:.3f} | {seconds / relocations * 1e9:.0f} "
                   f"| {peak / relocations:.0f} | {opened(folder, libraries, relocations, given.runs)} |", flush=True)

@@ -25,11 +25,11 @@ def image(words: int) -> bytes:
     return b"PURECAPI" + struct.pack("<II", 1, 1) + record + body + b"\xff" * (size // 128)
 
 
-def run(command: list[str], output: Path) -> tuple[float, int]:
-    """Wall time in seconds and peak memory in bytes of one run, its output in a file."""
+def run(command: list[str], output: Path, folder: Path | None = None) -> tuple[float, int]:
+    """Wall time in seconds and peak memory in bytes of one run in a folder, its output in a file."""
     with output.open("wb") as out:
         start = time.perf_counter()
-        child = subprocess.Popen(command, stdout=out)
+        child = subprocess.Popen(command, cwd=folder, stdout=out)
         _, status, usage = os.wait4(child.pid, 0)
         spent = time.perf_counter() - start
     child.returncode = os.waitstatus_to_exitcode(status)
