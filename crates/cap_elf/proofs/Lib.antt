@@ -1,4 +1,5 @@
 pub mod Walk
+pub mod RelWalk
 pub mod Passing
 pub mod Apart
 pub mod ReadSegments
@@ -7,3 +8,8 @@ pub mod ReadNames
 pub mod ReadSymbols
 pub mod ReadTables
 pub mod ReadLaw
+pub mod ReadRelSections
+pub mod ReadRelSymbols
+pub mod ReadRelRelocs
+pub mod ReadRelLaw
+pub mod ReadFields

@@ -1,5 +1,5 @@
 -- What follows of steps that passed.
-use Rattle.std.proofs.Common.{◌≡◌, ℕ, Bool, true, false, List, [], ◌∷◌, Option, Some, None, Result, Ok, Err, refl, subst, cond}
+use Rattle.std.proofs.Common.{◌≡◌, ℕ, ◌+◌, length, ap, sym, arith, Bool, true, false, List, [], ◌∷◌, Option, Some, None, Result, Ok, Err, refl, subst, cond}
 use Rattle.std.specs.Prelude.{ok_or, find, IfSome, All}
 use Rattle.std.specs.Option.{option_map}
 use Rattle.std.specs.List.{list_any}
@@ -18,6 +18,11 @@ bind_passed (Err e) f y h = absurd (cc)
 pub check_passed : {B : Type 0} (fails : Bool) (check : Check) (at : ℕ) (r : Result B Fault) (y : B) → (refuse fails check at >> r) ≡ Ok y → (fails ≡ false) × (r ≡ Ok y)
 check_passed true check at r y h = absurd (cc)
 check_passed false check at r y h = (refl, h)
+
+-- the check passed
+pub refused_passed : (fails : Bool) (check : Check) (at : ℕ) (u : Unit {0}) → refuse fails check at ≡ Ok u → fails ≡ false
+refused_passed true check at u h = absurd (cc)
+refused_passed false check at u h = refl
 
 pub then_passed : {E B : Type 0} (u : Result (Unit {0}) E) (r : Result B E) (y : B) → (u >> r) ≡ Ok y → (u ≡ Ok tt) × (r ≡ Ok y)
 then_passed (Ok v) r y h = (refl, h)
@@ -52,6 +57,20 @@ steps_keep f P keep a [] b p h = let e : a ≡ b = cc in subst P e p
 steps_keep f P keep a (x ∷ xs) b p h =
     let one = bind_passed (f a x) (λ c. steps f c xs) b h in
     steps_keep f P keep one.0 xs b (keep a x one.0 p one.1) one.2
+
+-- what each step from an item of some kind keeps
+pub steps_keep_all : {E A X : Type 0} (f : A → X → Result A E) (P : A → Type 0) (Q : X → Type 0) → ((a : A) (x : X) (b : A) → P a → Q x → f a x ≡ Ok b → P b) → (a : A) (xs : List X) (b : A) → P a → All Q xs → steps f a xs ≡ Ok b → P b
+steps_keep_all f P Q keep a [] b p all h = let e : a ≡ b = cc in subst P e p
+steps_keep_all f P Q keep a (x ∷ xs) b p all h =
+    let one = bind_passed (f a x) (λ c. steps f c xs) b h in
+    steps_keep_all f P Q keep one.0 xs b (keep a x one.0 p (All-head Q x xs all) one.1) (All-tail Q x xs all) one.2
+
+-- where each step gives one more, there are as many more as items
+pub steps_grow : {E A X : Type 0} (f : List A → X → Result (List A) E) → ((a : List A) (x : X) (b : List A) → f a x ≡ Ok b → length b ≡ length a + 1) → (a : List A) (xs : List X) (b : List A) → steps f a xs ≡ Ok b → length b ≡ length a + length xs
+steps_grow f one_more a [] b h = let e : a ≡ b = cc in let same = ap length (sym e) in omega (arith, same)
+steps_grow f one_more a (x ∷ xs) b h =
+    let one = bind_passed (f a x) (λ c. steps f c xs) b h in
+    omega (arith, one_more a x one.0 one.1, steps_grow f one_more one.0 xs b one.2)
 
 -- what was found passes the test
 pub find_passes : {X : Type 0} (p : X → Bool) (xs : List X) (x : X) → find p xs ≡ Some x → p x ≡ true

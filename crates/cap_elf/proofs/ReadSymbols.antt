@@ -27,7 +27,7 @@ pub record IsNamedSymbol (n : NamedSymbol) : Type 0 where
   pub name : IsShort n.name
   pub named : IsNamed (n.symbol, n.name)
 
-abbrev with_name : Symbol → List ℕ → NamedSymbol
+abbrev pub with_name : Symbol → List ℕ → NamedSymbol
 with_name symbol name = record { symbol = symbol; name = name }
 
 -- a name may be empty only where the symbol is local
@@ -37,7 +37,7 @@ named_from binding len test global =
     (λ (h : not (binding == 0) ≡ false). absurd (global (eqb-true binding 0 (not-false (binding == 0) h))))
     (and_cases (len == 0) (not (binding == 0)) test)
 
-name_passed : (strings : List ℕ) (e : SymbolEntry) (name : List ℕ) → checked_name strings e ≡ Ok name → IsNamedSymbol (with_name e.symbol name)
+pub name_passed : (strings : List ℕ) (e : SymbolEntry) (name : List ℕ) → checked_name strings e ≡ Ok name → IsNamedSymbol (with_name e.symbol name)
 unfolding checked_name
 name_passed strings e name passed =
     let found = bind_passed (ok_or (name_of strings e.name) (fault SymbolName e.symbol.at)) _ name passed in
@@ -112,7 +112,7 @@ symbol_keeps strings at named e next are passed =
       first = ap (λ l. l ++ n ∷ []) are.first;
     })
 
-null_is : (at : ℕ) → IsNamedSymbol (null_named at)
+pub null_is : (at : ℕ) → IsNamedSymbol (null_named at)
 null_is at = record {
   symbol = record { kind = omega arith; binding = omega arith };
   name = record { plain = refl; short = omega arith };

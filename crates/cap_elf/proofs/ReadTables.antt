@@ -1,14 +1,13 @@
 -- The tables of a shared object that was read.
-use Rattle.std.proofs.Common.{◌≡◌, ℕ, ◌+◌, ◌-◌, ◌*◌, ◌%◌, ◌^◌, ◌≤◌, ◌<◌, Bool, true, false, List, [], ◌∷◌, length, Option, Some, None, Ok, suc, refl, sym, subst, ap, ◌∙◌, arith}
+use Rattle.std.proofs.Common.{◌≡◌, ℕ, ◌+◌, ◌-◌, ◌*◌, ◌%◌, ◌^◌, ◌≤◌, ◌<◌, true, List, [], ◌∷◌, length, Option, Some, None, Ok, suc, refl, sym, subst, ap, ◌∙◌, arith}
 use Rattle.std.specs.Prelude.{not, ◌||◌, ◌==◌, nat_le, nat_lt, find, All, ok_or, unwrap_or, slice_index}
 use Rattle.std.proofs.lemmas.Bool.{leb-true, leb-false, ltb-false, eqb-true, eqb-false, or_parts, and_parts, and_from, le-leb, both_ways, not-false}
 use Rattle.std.proofs.lemmas.List.FromFn.{length-map-range_with_len, get_or-map-range_with_len}
 use Rattle.std.proofs.lemmas.List.Elements.{All-nil, All-cons, All-head, All-tail}
 use Rattle.std.proofs.lemmas.List.Folds.{Any-from_list_any}
 use Rattle.cap_base.specs.Field.{number_at}
-use Rattle.cap_base.specs.declared.check.Check.{Check}
 use Rattle.cap_base.specs.declared.check.Check.TheVariants as checks
-use Rattle.cap_base.specs.Steps.{refuse, fault, steps}
+use Rattle.cap_base.specs.Steps.{fault, steps}
 use Rattle.cap_elf.specs.declared.records.Segment.{Segment}
 use Rattle.cap_elf.specs.declared.records.DynReloc.{DynReloc}
 use Rattle.cap_elf.specs.declared.records.Arrays.{Arrays}
@@ -24,7 +23,7 @@ use Rattle.cap_elf.specs.Tables.{hash_of, symbols_of, list_of, lists_of, is_valu
 use Rattle.cap_elf.specs.Relocs.{symbol_fits, symbols_fit}
 use Rattle.cap_elf.specs.Arrays.{array_of, arrays_of}
 use Rattle.cap_elf.specs.IsRead.{Ascend, IsArray}
-use Rattle.cap_elf.proofs.Passing.{bind_passed, check_passed, choice_passed, some_passed, map_passed, same_value, find_passes, find_all}
+use Rattle.cap_elf.proofs.Passing.{bind_passed, check_passed, refused_passed, choice_passed, some_passed, map_passed, same_value, find_passes, find_all}
 use Rattle.cap_elf.proofs.ReadSegments.{IsLoad, AreLoads}
 use Rattle.cap_elf.proofs.ReadNames.{some_from}
 
@@ -148,17 +147,13 @@ lists_counted loads used at l passed =
     let few = check_passed (nat_lt (2 ^ 20) (relocs.0.count + jumps.0.count + caps.0.count)) checks.RelocationCount 0 _ l caps.2 in
     subst AreFew (same_value _ l few.1) (ltb-false (2 ^ 20) (relocs.0.count + jumps.0.count + caps.0.count) few.0)
 
-refused_is : (fails : Bool) (check : Check) (at : ℕ) (u : Unit {0}) → refuse fails check at ≡ Ok u → fails ≡ false
-refused_is true check at u h = absurd (cc)
-refused_is false check at u h = refl
-
 -- each relocation names a symbol
 pub fits_passed : (symbols : ℕ) (relocs : List DynReloc) → symbols_fit symbols relocs ≡ Ok tt → All (λ r. r.symbol < symbols) relocs
 unfolding symbol_fits
 fits_passed symbols [] passed = All-nil (λ r. r.symbol < symbols)
 fits_passed symbols (r ∷ rs) passed =
     let one = bind_passed (symbol_fits symbols tt r) (λ u. steps (symbol_fits symbols) u rs) tt passed in
-    let fits = refused_is (nat_le symbols r.symbol) checks.RelocationSymbol r.at one.0 one.1 in
+    let fits = refused_passed (nat_le symbols r.symbol) checks.RelocationSymbol r.at one.0 one.1 in
     All-cons (λ q. q.symbol < symbols) r rs (leb-false symbols r.symbol fits) (fits_passed symbols rs one.2)
 
 -- a range in the memory of a segment

@@ -17,3 +17,12 @@ pub mod Stages
 pub mod DynView
 pub mod RecordsView
 pub mod IsRead
+pub mod Classes
+pub mod RelObject
+pub mod SectionTypes
+pub mod Sections
+pub mod RelSymbols
+pub mod RelRelocs
+pub mod RelView
+pub mod IsRelRead
+pub mod ReadLaws

@@ -11,6 +11,10 @@ before_zero bytes = take (unwrap_or (position (λ b. b == 0) bytes) (length byte
 abbrev pub name_of : List ℕ → ℕ → Option (List ℕ)
 name_of strings offset = if nat_lt offset (length strings) then Some (before_zero (drop offset strings)) else None
 
+-- the bytes from an offset in the string table on, None outside it: a name, a zero byte, and what follows
+abbrev pub rest_of : List ℕ → ℕ → Option (List ℕ)
+rest_of strings offset = if nat_lt offset (length strings) then Some (drop offset strings) else None
+
 -- a slash, which separates folders
 abbrev pub has_slash : List ℕ → Bool
 has_slash name = list_any (λ b. b == 47) name

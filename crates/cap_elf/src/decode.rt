@@ -8,17 +8,17 @@ use cap_base::{u16_in, u32_in, u64_in};
 
 /// Where records of one size stand in the file, and how many they are.
 #[derive(Clone, Copy, Debug, PartialEq, Eq)]
-pub(crate) struct Table {
-    pub(crate) at: usize,
-    pub(crate) count: usize,
+pub struct Table {
+    pub at: usize,
+    pub count: usize,
 }
 
 /// A program header (Elf64_Phdr): its type, the segment that it tells of, and its own place in the file.
 #[derive(Clone, Copy, Debug, PartialEq, Eq)]
-pub(crate) struct ProgramHeader {
-    pub(crate) kind: u32,
-    pub(crate) segment: Segment,
-    pub(crate) at: u64,
+pub struct ProgramHeader {
+    pub kind: u32,
+    pub segment: Segment,
+    pub at: u64,
 }
 
 #[tactic(auto, unfolding(crate::specs::Records::program_header_at))]
@@ -43,10 +43,10 @@ pub(crate) fn program_header(bytes: &[u8], at: usize) -> ProgramHeader
 
 /// An entry of the dynamic table (Elf64_Dyn), and its own place in the file.
 #[derive(Clone, Copy, Debug, PartialEq, Eq)]
-pub(crate) struct DynEntry {
-    pub(crate) tag: u64,
-    pub(crate) value: u64,
-    pub(crate) at: u64,
+pub struct DynEntry {
+    pub tag: u64,
+    pub value: u64,
+    pub at: u64,
 }
 
 #[tactic(auto, unfolding(crate::specs::Records::dyn_entry_at))]
@@ -63,9 +63,9 @@ pub(crate) fn dyn_entry(bytes: &[u8], at: usize) -> DynEntry
 
 /// A symbol (Elf64_Sym), and where its name stands in the string table.
 #[derive(Clone, Copy, Debug, PartialEq, Eq)]
-pub(crate) struct SymbolEntry {
-    pub(crate) name: u64,
-    pub(crate) symbol: Symbol,
+pub struct SymbolEntry {
+    pub name: u64,
+    pub symbol: Symbol,
 }
 
 fn place_of(section: u16) -> Place

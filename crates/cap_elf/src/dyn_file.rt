@@ -195,7 +195,8 @@ impl DynFile {
 
     /// The object's own name (DT_SONAME). None exactly where it has none.
     pub fn soname(&self) -> Option<&[u8]>
-        ensures { option_copied result ≡ self.now.records.soname }
+        ensures soname { option_copied result ≡ self.now.records.soname }
+        ensures sound { IsRead self.now.records }
     {
         match &self.records.soname {
             Some(name) => Some(name.bytes()),

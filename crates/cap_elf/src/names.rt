@@ -2,7 +2,7 @@
 
 ghost use Rattle.std.specs.Prelude.{◌≡◌, ◌==◌, option_copied, position};
 ghost use Rattle.cap_base.specs.Steps.{Answers, Gives};
-ghost use Rattle.cap_elf.specs.Names.{name_of, has_slash as has_slash_of, is_file_name as is_file_name_of};
+ghost use Rattle.cap_elf.specs.Names.{name_of, rest_of, has_slash as has_slash_of, is_file_name as is_file_name_of};
 ghost use Rattle.cap_elf.specs.FileNames.{file_name_of, name_step, names_of, names_view};
 
 use crate::decode::DynEntry;
@@ -14,6 +14,16 @@ fn zero_at(bytes: &[u8]) -> Option<usize>
     ensures { result ≡ position (λ b. b == 0) bytes.now }
 {
     bytes.iter().position(|byte| *byte == 0)
+}
+
+/// The bytes from `offset` on: a name, a zero byte, and what follows.
+pub(crate) fn rest_at(strings: &[u8], offset: u64) -> Option<&[u8]>
+    ensures { option_copied result ≡ rest_of strings.now offset }
+{
+    if offset >= strings.len() as u64 {
+        return None;
+    }
+    Some(&strings[offset as usize..])
 }
 
 /// The bytes from `offset` on up to the next zero byte.

@@ -107,9 +107,9 @@ pub(crate) fn loads(alloc: Global, file_len: u64, headers: &[ProgramHeader]) -> 
 
 /// Where the dynamic table stands in the file, and the range that is read-only after loading.
 #[derive(Clone, Copy, Debug, PartialEq, Eq)]
-pub(crate) struct Marks {
-    pub(crate) dynamic: Option<Table>,
-    pub(crate) relro: Option<(u64, u64)>,
+pub struct Marks {
+    pub dynamic: Option<Table>,
+    pub relro: Option<(u64, u64)>,
 }
 
 /// What the headers so far tell, and the next one.

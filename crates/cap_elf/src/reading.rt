@@ -36,13 +36,13 @@ pub(crate) struct Records {
     pub(crate) align: u64,
 }
 
-fn symbols_of(alloc: Global, named: &[NamedSymbol]) -> Result<Vec<Symbol>, AllocError>
+pub(crate) fn symbols_of(alloc: Global, named: &[NamedSymbol]) -> Result<Vec<Symbol>, AllocError>
     ensures { IfOk result (λ v. v.items ≡ map (λ n. n.symbol) named.now) }
 {
     named.iter().map(|named| named.symbol).collect(alloc)
 }
 
-fn names_of(alloc: Global, named: Vec<NamedSymbol>) -> Result<Vec<Name>, AllocError>
+pub(crate) fn names_of(alloc: Global, named: Vec<NamedSymbol>) -> Result<Vec<Name>, AllocError>
     ensures { IfOk result (λ v. v.items ≡ map (λ n. n.name) named.items) }
 {
     named.into_iter().map(|named| named.name).collect(alloc)

@@ -1,5 +1,7 @@
 //! The records of object files, each with its own place in the file.
 
+ghost use Rattle.std.specs.Prelude.{◌≡◌};
+
 /// A part of a shared object that is mapped: a program header of type PT_LOAD.
 #[derive(Clone, Copy, Debug, PartialEq, Eq)]
 pub struct Segment {
@@ -106,6 +108,31 @@ pub enum Class {
     Bss,
     /// Nothing that a program has in memory.
     Dropped,
+}
+
+impl Class {
+    ghost use Rattle.cap_elf.specs.Classes.{is_kept as is_kept_of, is_code as is_code_of, is_array as is_array_of};
+
+    /// Whether a program has the section in memory.
+    pub fn is_kept(self) -> bool
+        ensures { result ≡ is_kept_of self }
+    {
+        !matches!(self, Class::Dropped)
+    }
+
+    /// Whether it holds instructions.
+    pub fn is_code(self) -> bool
+        ensures { result ≡ is_code_of self }
+    {
+        matches!(self, Class::Code)
+    }
+
+    /// Whether it is an array of initial or of final calls.
+    pub fn is_array(self) -> bool
+        ensures { result ≡ is_array_of self }
+    {
+        matches!(self, Class::Init | Class::Fini)
+    }
 }
 
 /// A section of a relocatable object.

@@ -17,9 +17,9 @@ use std::collections::BTreeSet;
 
 /// A symbol with its name.
 #[derive(Drop)]
-pub(crate) struct NamedSymbol {
-    pub(crate) symbol: Symbol,
-    pub(crate) name: Name,
+pub struct NamedSymbol {
+    pub symbol: Symbol,
+    pub name: Name,
 }
 
 /// A set of names that lie in the string table.

@@ -15,17 +15,17 @@ use cap_base::{Check, Fault, refuse, u32_in};
 
 /// Where the words of the hash table stand, and how many symbols it tells of.
 #[derive(Clone, Copy, Debug, PartialEq, Eq)]
-pub(crate) struct HashPlace {
-    pub(crate) words: Table,
-    pub(crate) symbols: usize,
+pub struct HashPlace {
+    pub words: Table,
+    pub symbols: usize,
 }
 
 /// Where the three lists of relocations stand.
 #[derive(Clone, Copy, Debug, PartialEq, Eq)]
-pub(crate) struct Lists {
-    pub(crate) cap_relocs: Table,
-    pub(crate) relocs: Table,
-    pub(crate) jumps: Table,
+pub struct Lists {
+    pub cap_relocs: Table,
+    pub relocs: Table,
+    pub jumps: Table,
 }
 
 /// The bytes of the string table.

@@ -16,16 +16,16 @@ use symbol_faults::SYMBOL_FAULTS;
 use table_faults::{TABLE_FAULTS, TOO_MANY};
 
 /// Bytes that are put at a place.
-type Write = (usize, &'static [u8]);
+pub(crate) type Write = (usize, &'static [u8]);
 
 /// The length of the file, what is put into the good object, and the number of the check that then fails, and where.
-type Case = (usize, &'static [Write], u8, u64);
+pub(crate) type Case = (usize, &'static [Write], u8, u64);
 
-fn zeros(alloc: Global, len: usize) -> Result<Vec<u8>, AllocError> {
+pub(crate) fn zeros(alloc: Global, len: usize) -> Result<Vec<u8>, AllocError> {
     vec![in alloc; 0u8; len]
 }
 
-fn put(bytes: &mut [u8], at: usize, new: &[u8]) {
+pub(crate) fn put(bytes: &mut [u8], at: usize, new: &[u8]) {
     for i in 0..new.len() {
         if let Some(slot) = bytes.get_mut(at.saturating_add(i)) {
             *slot = new[i];

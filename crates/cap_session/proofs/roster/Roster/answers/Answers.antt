@@ -17,6 +17,6 @@ returns c =
     let object : c.file.result.now ≡ _ = c.file.ensures ∙ c.index.ensures in
     c.is_called.ensures
     ∙ ap (λ (sought : List ℕ). (nat_lt 0 i && bytes_eq sought name) || has_soname name (option_copied c.soname-soname.result)) c.name-sought.ensures
-    ∙ ap (λ (soname : Option (List ℕ)). (nat_lt 0 i && bytes_eq (slice_index_or r.names i ([], false)).0 name) || has_soname name soname) (c.soname-soname.ensures ∙ ap (λ (o : DynValue). o.records.soname) object)
+    ∙ ap (λ (soname : Option (List ℕ)). (nat_lt 0 i && bytes_eq (slice_index_or r.names i ([], false)).0 name) || has_soname name soname) (c.soname-soname.ensures.soname ∙ ap (λ (o : DynValue). o.records.soname) object)
     ∙ ap (λ (x : Called). is_answer name (i, x)) (sym (called_at r c.self.invariant.roster i no_called ([], false) c.index.result.now lt))
     ∙ ap (λ (s : RosterValue). is_answer name (i, slice_index_or (called_in s) i no_called)) c.self.view_is
