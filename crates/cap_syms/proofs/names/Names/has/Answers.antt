@@ -1,0 +1,11 @@
+use Rattle.std.proofs.Common.{ap, ◌∙◌}
+use Rattle.std.specs.List.{list_any}
+use Rattle.std.specs.Str.{bytes_eq}
+use Rattle.cap_syms.proofs.NameLemmas.{any_texts}
+use Rattle.cap_syms.proofs.names.Names.has.Goals as goal
+
+pub returns : goal.returns
+returns c =
+    c.contains.ensures
+    ∙ any_texts (bytes_eq c.args.name.now) c.self.inside.set.keys
+    ∙ ap (list_any (bytes_eq c.args.name.now)) c.self.view_is

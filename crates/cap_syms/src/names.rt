@@ -1,0 +1,67 @@
+//! Names, each once, in the order in which they came.
+
+ghost use Rattle.std.specs.Prelude.{◌≡◌, ◌<◌, [], length, IfOk, OnOk, OnErr, IfSome, position, slice_index_or};
+ghost use Rattle.std.specs.Str.{bytes_eq};
+ghost use Rattle.std.specs.List.{list_any, position_or_len};
+ghost use Rattle.cap_syms.specs.Distinct.{with_new};
+
+use cap_base::NoMemory;
+use indexmap::IndexSet;
+use std::alloc::Global;
+use std::marker::Model;
+
+/// Names in the order in which they came, each once. A look-up is by hash.
+#[derive(Drop)]
+pub(crate) struct Names<'a> {
+    set: IndexSet<&'a [u8]>,
+}
+
+impl<'a> Model for Names<'a> {
+    ghost use Rattle.std.specs.Prelude.{List, ℕ, map, length, ◌<◌, ◌^◌};
+
+    ghost Value = { List (List ℕ) };
+
+    ghost view = { λ n. map (λ k. k.now) n.set.keys };
+}
+
+impl<'a> Names<'a> {
+    /// No names. It takes no memory.
+    pub(crate) fn new(alloc: Global) -> Names<'a>
+        ensures { result ≡ [] }
+    {
+        Names {
+            set: IndexSet::new(alloc),
+        }
+    }
+
+    /// Takes in a name, and gives its place.
+    pub(crate) fn add(&mut self, name: &'a [u8]) -> Result<usize, NoMemory>
+        ensures names { OnOk result (self.new ≡ with_new bytes_eq self.old name.now) }
+        ensures place { IfOk result (λ i. i ≡ position_or_len (bytes_eq name.now) self.old) }
+    {
+        let (place, _) = self.set.insert_full(name)?;
+        Ok(place)
+    }
+
+    /// The name at a place.
+    pub(crate) fn name(&self, i: usize) -> &'a [u8]
+        requires { i < length self.now }
+        ensures { result.now ≡ slice_index_or self.now i [] }
+    {
+        self.set.as_slice()[i]
+    }
+
+    /// The place of a name.
+    pub(crate) fn find(&self, name: &[u8]) -> Option<usize>
+        ensures { result ≡ position (bytes_eq name.now) self.now }
+    {
+        self.set.get_index_of(name)
+    }
+
+    /// Whether the name is one of them.
+    pub(crate) fn has(&self, name: &[u8]) -> bool
+        ensures { result ≡ list_any (bytes_eq name.now) self.now }
+    {
+        self.set.contains(name)
+    }
+}
