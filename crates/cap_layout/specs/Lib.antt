@@ -1,0 +1,16 @@
+pub mod Cuts
+pub mod Pieces
+pub mod Marked
+pub mod Commons
+pub mod CutWalk
+pub mod Places
+pub mod Parts
+pub mod Points
+pub mod Laid
+pub mod Running
+pub mod Segments
+pub mod IsPiece
+pub mod PieceOrder
+pub mod CommonMap
+pub mod Held
+pub mod Found
