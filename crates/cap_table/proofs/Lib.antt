@@ -1,0 +1,19 @@
+pub mod FillPieces
+pub mod FillFacts
+pub mod NameLemmas
+pub mod FillNumbers
+pub mod BodyHeld
+pub mod BodyRoom
+pub mod BodyNumbers
+pub mod SourceTargets
+pub mod StepFields
+pub mod StepPieces
+pub mod StepWalk
+pub mod PlanTargets
+pub mod StepLaw
+pub mod PlanGathered
+pub mod PlanNames
+pub mod PlanArrays
+pub mod PlanCounts
+pub mod PlanLaw
+mod PlanRows

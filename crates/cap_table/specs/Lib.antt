@@ -1,0 +1,12 @@
+pub mod Kinds
+pub mod Targets
+pub mod Checks
+pub mod Walked
+pub mod Planned
+pub mod Gathered
+pub mod Counted
+pub mod Lists
+pub mod Bodies
+pub mod Facts
+pub mod Numbers
+pub mod NameTable

@@ -1,0 +1,162 @@
+//! The descriptions of capabilities in `__cap_relocs`.
+
+ghost use Rattle.std.specs.Prelude.{◌≡◌, IfOk};
+ghost use Rattle.std.specs.Option.{option_map_or};
+ghost use Rattle.cap_layout.specs.Points.{offset_of};
+ghost use Rattle.cap_table.specs.Planned.{is_described};
+ghost use Rattle.cap_table.specs.Lists.{permissions_of, nothing_described, described, loose_described, interval_described, section_number, cap_reloc_of, cap_relocs_of};
+
+use crate::meaning::{interval, is_address, is_loose};
+use crate::sources::Sources;
+use crate::target::Target;
+use crate::wants::{CAPABILITY, Want};
+use cap_base::NoMemory;
+use cap_elf::{CapReloc, Class, Place};
+use cap_layout::{Layout, Piece};
+use std::alloc::Global;
+
+/// What a description says: where the object begins, the offset in it, and its size.
+#[derive(Clone, Copy, Debug, PartialEq, Eq)]
+pub struct Described {
+    pub object: u64,
+    pub offset: u64,
+    pub size: u64,
+}
+
+const NOTHING: Described = Described {
+    object: 0,
+    offset: 0,
+    size: 0,
+};
+
+/// A function; data that is only read.
+const CODE: u64 = 1 << 63;
+
+const READ_ONLY: u64 = 1 << 62;
+
+/// The descriptions of all capabilities to addresses.
+pub(crate) fn cap_relocs(
+    alloc: Global,
+    sources: &Sources<'_>,
+    layout: &Layout<'_>,
+    wants: &[Want],
+) -> Result<Vec<CapReloc>, NoMemory>
+    requires { layout.now.rels ≡ sources.now.rels }
+    ensures { IfOk result (λ listed. listed.items ≡ cap_relocs_of layout.now wants.now) }
+{
+    let mut listed = Vec::new(alloc);
+    for want in wants {
+        if is_capability_to_address(want) {
+            listed.push(cap_reloc(sources, layout, want))?;
+        }
+    }
+    Ok(listed)
+}
+
+fn is_capability_to_address(want: &Want) -> bool
+    ensures { result ≡ is_described want.now.kind want.now.target }
+{
+    want.kind == CAPABILITY && is_address(&want.target)
+}
+
+#[tactic(auto, unfolding(crate::specs::Lists::cap_reloc_of))]
+fn cap_reloc(sources: &Sources<'_>, layout: &Layout<'_>, want: &Want) -> CapReloc
+    requires { layout.now.rels ≡ sources.now.rels }
+    ensures { result ≡ cap_reloc_of layout.now want.now }
+{
+    let is = describe(sources, layout, &want.target, want.addend);
+    CapReloc {
+        location: want.address,
+        object: is.object,
+        offset: is.offset,
+        size: is.size,
+        permissions: permissions(want.target.class),
+        at: 0,
+    }
+}
+
+fn permissions(class: Class) -> u64
+    ensures { result ≡ permissions_of class }
+{
+    match class {
+        Class::Code => CODE,
+        Class::Data | Class::Bss => 0,
+        Class::Ro | Class::Init | Class::Fini | Class::Relro | Class::Dropped => READ_ONLY,
+    }
+}
+
+/// The object of a target, and the place of the addend in it.
+#[tactic(auto, unfolding(crate::specs::Lists::described))]
+fn describe(sources: &Sources<'_>, layout: &Layout<'_>, target: &Target, addend: i64) -> Described
+    requires { layout.now.rels ≡ sources.now.rels }
+    ensures { result ≡ described layout.now target.now addend }
+{
+    if is_loose(target) {
+        describe_place(layout, target, addend)
+    } else {
+        describe_symbol(sources, layout, target, addend)
+    }
+}
+
+/// A symbol that stands for places of its section: the piece of the place that the addend names.
+fn describe_place(layout: &Layout<'_>, target: &Target, addend: i64) -> Described
+    ensures { result ≡ option_map_or (loose_described layout.now target.now.file (section_number target.now.as_is.place)) (offset_of target.now.as_is.value addend) nothing_described }
+{
+    let pieces = layout.pieces().all();
+    let section = section_of(target.as_is.place);
+    match target.as_is.value.checked_add_signed(addend) {
+        Some(offset) => describe_piece(layout, pieces, target.file, section, offset),
+        None => NOTHING,
+    }
+}
+
+/// The piece of an offset of a section.
+#[tactic(auto, using(crate::proofs::FillPieces::found_below, crate::proofs::FillPieces::found_from))]
+fn describe_piece(
+    layout: &Layout<'_>,
+    pieces: &[Piece],
+    file: u32,
+    section: u32,
+    offset: u64,
+) -> Described
+    requires { pieces.now ≡ layout.now.pieces.all }
+    ensures { result ≡ loose_described layout.now file section offset }
+{
+    match layout.pieces().find(file, section, offset) {
+        Some(i) => Described {
+            object: layout.address(i),
+            offset: offset - pieces[i as usize].start,
+            size: pieces[i as usize].padded,
+        },
+        None => NOTHING,
+    }
+}
+
+fn section_of(place: Place) -> u32
+    ensures { result ≡ section_number place }
+{
+    match place {
+        Place::Section(section) => section,
+        Place::Undefined | Place::Absolute | Place::Common => 0,
+    }
+}
+
+/// A symbol with an interval of its own.
+fn describe_symbol(
+    sources: &Sources<'_>,
+    layout: &Layout<'_>,
+    target: &Target,
+    addend: i64,
+) -> Described
+    requires { layout.now.rels ≡ sources.now.rels }
+    ensures { result ≡ interval_described layout.now target.now.file target.now.symbol addend }
+{
+    match interval(sources, layout, target) {
+        Some((object, size)) => Described {
+            object,
+            offset: addend.unsigned_abs(),
+            size,
+        },
+        None => NOTHING,
+    }
+}
