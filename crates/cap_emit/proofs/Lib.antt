@@ -1,0 +1,10 @@
+mod ByClass
+mod Chunks
+mod Emitted
+mod Fits
+mod Fitting
+mod Growing
+mod Law
+mod Lengths
+mod Listed
+mod Undefined

@@ -1,0 +1,4 @@
+pub mod Spread
+pub mod Records
+pub mod File
+pub mod Written
