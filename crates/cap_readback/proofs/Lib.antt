@@ -1,0 +1,14 @@
+pub mod Reading
+pub mod Header
+pub mod Segments
+pub mod Dynamic
+pub mod Names
+pub mod Tables
+pub mod Symbols
+pub mod View
+pub mod File
+pub mod Laying
+pub mod Law
+pub mod Row
+pub mod Forms
+pub mod Aligned

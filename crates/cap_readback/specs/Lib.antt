@@ -1,0 +1,11 @@
+pub mod Stands
+pub mod Spread
+pub mod Written
+pub mod Plan
+pub mod Lists
+pub mod Content
+pub mod View
+pub mod File
+pub mod Layout
+pub mod Law
+pub mod Forms
