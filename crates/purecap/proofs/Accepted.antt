@@ -17,21 +17,11 @@ use Rattle.cap_session.specs.Mappings.{IsName}
 use Rattle.purecap.specs.declared.faults.Failure.{Failure}
 use Rattle.purecap.specs.declared.faults.Failure.TheVariants.{Usage, Limit, NotBuilt}
 use Rattle.purecap.specs.declared.words.Command.{Command as Given}
-use Rattle.purecap.specs.Words.{Command, Show, Load, LoadWords, IsAccepted, IsCallName, Meant, asked_by, call_of, command_of, form_of, has_long_name, has_slash, is_long, is_name, is_path, load_app, load_of, load_words, meaning, parsed, refuse, show_app, show_of, show_words, too_long, value_of, values_of}
-
--- ---- steps that passed
-
-bind_passed : {A B : Type 0} (r : Result A Failure) (f : A → Result B Failure) (y : B) → (r >>= f) ≡ Ok y → (x : A) × (r ≡ Ok x) × (f x ≡ Ok y)
-bind_passed (Ok x) f y h = (x, refl, h)
-bind_passed (Err e) f y h = absurd (cc)
-
-then_passed : {B : Type 0} (u : Result (Unit {0}) Failure) (r : Result B Failure) (y : B) → (u >> r) ≡ Ok y → (u ≡ Ok tt) × (r ≡ Ok y)
-then_passed (Ok v) r y h = (refl, h)
-then_passed (Err e) r y h = absurd (cc)
-
-refuse_passed : (fails : Bool) (failure : Failure) → refuse fails failure ≡ Ok tt → fails ≡ false
-refuse_passed true failure h = absurd (cc)
-refuse_passed false failure h = refl
+use Rattle.purecap.specs.WordRules.{Meant, has_slash, is_long, is_name, is_path, parsed, refuse, too_long, value_of, values_of}
+use Rattle.purecap.specs.LinkWords.{link_words}
+use Rattle.purecap.proofs.Passing.{bind_passed, then_passed, refuse_passed, path_passed}
+use Rattle.purecap.proofs.LinkAccepted.{link_passed}
+use Rattle.purecap.specs.Words.{Command, Show, Load, Link, LoadWords, IsAccepted, IsCallName, asked_by, call_of, command_of, form_of, has_long_name, load_app, load_of, load_words, meaning, show_app, show_of, show_words}
 
 choice_passed : {A Goal : Type 0} (b : Bool) (x y z : A) → cond b x y ≡ z → (x ≡ z → Goal) → (y ≡ z → Goal) → Goal
 choice_passed true x y z h first second = first h
@@ -41,11 +31,6 @@ abbrev accept : Command → Result Command Failure
 accept command = Ok command
 
 -- ---- names
-
-path_passed : (text : Text) → is_path text ≡ true → is_long text ≡ false → IsName text
-path_passed text path short =
-    let parts = both (nat_lt 0 (length text)) (is_plain text) path in
-    (grind (arith, nat_tests, parts.0), record { plain = parts.1; short = grind (arith, nat_tests, short) })
 
 call_passed : (word : Text) (call : Call) → call_of word ≡ Ok call → is_name call.name ≡ true
 unfolding call_of
@@ -132,13 +117,19 @@ load_words_passed words command h =
     let two = bind_passed (gather call_of (values_of one.0 (codes "call"))) (λ calls. load_of (asked_by one.0 calls)) command one.2 in
     load_passed (asked_by one.0 two.0) (values_of one.0 (codes "call")) command two.1 two.2
 
+link_command_passed : (words : List Text) (command : Command) → (link_words words >>= λ asked. Ok (Link asked)) ≡ Ok command → IsAccepted command
+link_command_passed words command h =
+    let one = bind_passed (link_words words) (λ asked. Ok (Link asked)) command h in
+    subst IsAccepted (same_command (Link one.0) command one.2) (link_passed words one.0 one.1)
+
 command_passed : (words : List Text) (command : Command) → command_of words ≡ Ok command → IsAccepted command
 unfolding command_of
 command_passed [] command h = absurd (cc)
 command_passed (first ∷ words) command h =
     choice_passed (bytes_eq first (codes "show")) (show_words (first ∷ words)) _ (Ok command) h (show_words_passed (first ∷ words) command) (λ h.
     choice_passed (bytes_eq first (codes "load")) (load_words (first ∷ words)) _ (Ok command) h (load_words_passed (first ∷ words) command) (λ h.
-    choice_passed (bytes_eq first (codes "link") || bytes_eq first (codes "demo")) (Err NotBuilt) (Err Usage) (Ok command) h (λ h. absurd (cc)) (λ h. absurd (cc))))
+    choice_passed (bytes_eq first (codes "link")) (link_words (first ∷ words) >>= λ asked. Ok (Link asked)) _ (Ok command) h (link_command_passed (first ∷ words) command) (λ h.
+    choice_passed (bytes_eq first (codes "demo")) (Err NotBuilt) (Err Usage) (Ok command) h (λ h. absurd (cc)) (λ h. absurd (cc)))))
 
 -- each command that is accepted has what the definition promises
 pub accepted : (words : List Text) (given : Result Given Failure) → Meant meaning given (command_of words) → IfOk given (λ command. IsAccepted (meaning command))

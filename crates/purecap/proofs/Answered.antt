@@ -1,13 +1,15 @@
 -- A run that reads its files gives the answer that its words and files define, or a part of it.
-use Rattle.std.proofs.Common.{◌≡◌, ◌≢◌, ℕ, List, [], codes, Option, Some, None, IfSome, Result, Ok, Err, refl, sym, ap, subst, ◌∙◌, inl, inr, ◌⊎◌, append-nil}
+use Rattle.std.proofs.Common.{◌≡◌, ◌≢◌, ℕ, List, [], map, codes, Option, Some, None, IfSome, Result, Ok, Err, refl, sym, ap, subst, ◌∙◌, inl, inr, ◌⊎◌, append-nil}
 use Rattle.std.specs.Io.KnownBytes.{Appends}
 use Rattle.cap_base.specs.Outside.{Store, file_in, AppendsFront, with_file}
 use Rattle.cap_base.specs.SaveFile.{WritesFront}
 use Rattle.cap_mem.specs.Tagged.{TaggedMemory}
 use Rattle.purecap.specs.declared.faults.Failure.{Failure}
 use Rattle.purecap.specs.declared.faults.Failure.TheVariants.{WriteFault}
-use Rattle.purecap.specs.Words.{Command, Show, Load, command_of}
-use Rattle.purecap.specs.Answer.{Product, Printed, Saved, Stop, stop_at, Story, show_story, command_story, answer_by, answer_of, answer_to}
+use Rattle.purecap.specs.Linking.{Found, found_in, link_story}
+use Rattle.purecap.specs.Words.{Command, Show, Load, Link, command_of}
+use Rattle.purecap.specs.Story.{stopped, Product, Printed, Saved, Stop, stop_at, Story}
+use Rattle.purecap.specs.Answer.{show_story, command_story, answer_by, answer_of, answer_to}
 use Rattle.purecap.specs.Run.{Stream, Disk, IsStill, IsWritten, IsGiven, IsGivenPart, EndsAs, HasRisen, Ends, end_status, Runs, Gave, IsHalf, Answers, target_of, Says}
 use Rattle.purecap.specs.Answer as answer
 use Rattle.purecap.proofs.Ways.{Way, Done, Unread, CutShort, Starved, Refused, way_of}
@@ -94,8 +96,12 @@ command_gave (Ok (Load words)) store disk told out err kept end ends =
     let is = subst (λ (o : Option Store). IfSome o (λ s. ends.story ≡ answer.load_story words s)) told ends.is_story in
     let there = subst (λ (story : Story). EndsAs story disk out err kept end) is ends.ends in
     gave store disk told out err kept end (answer.load_story words store) (way_of _ disk out err kept end there)
+command_gave (Ok (Link words)) store disk told out err kept end ends =
+    let is = subst (λ (o : Option Store). IfSome o (λ s. ends.found ≡ map (found_in s) words.inputs)) told ends.are_found.files_are in
+    let there = subst (λ (found : List Found). EndsAs (link_story words found) disk out err kept end) is ends.ends in
+    gave store disk told out err kept end (link_story words (map (found_in store) words.inputs)) (way_of _ disk out err kept end there)
 command_gave (Err failure) store disk told out err kept end ends =
-    gave store disk told out err kept end (answer.stopped [] failure) (way_of _ disk out err kept end ends.ends)
+    gave store disk told out err kept end (stopped [] failure) (way_of _ disk out err kept end ends.ends)
 
 answered_by : (words : List (List ℕ)) (disk : Disk) (out err : Stream) (kept : List TaggedMemory) (end : Result Unit Failure) → Ends (command_of words) disk out err kept end
     → (told : Option Store) → disk.old ≡ told

@@ -13,16 +13,13 @@ use Rattle.cap_session.specs.declared.refusal.OpenCause.TheVariants as causes
 use Rattle.purecap.specs.declared.faults.Failure.{Failure}
 use Rattle.purecap.specs.declared.faults.Failure.TheVariants.{Usage, Limit, NoMemory, NotBuilt}
 use Rattle.purecap.specs.Faults.{status_of, failure_of}
-use Rattle.purecap.specs.Words.{Command, Show, Load, LoadWords, command_of}
-use Rattle.purecap.specs.Answer.{failure_by, report_in, shown, Product, Printed, Saved, Stop, stop_at, Story, stopped, printed, show_story, note_lines}
-use Rattle.purecap.specs.Run.{Stream, Disk, IsStill, IsKept, HasRisen, IsUntouched, IsNothing, IsGiven, IsGivenPart, IsCalm, IsLoaded, Says, Ends, end_status, Runs, output_count, IsAside, HasCauses}
-use Rattle.purecap.proofs.Ways.{IsRefusal, Way, Done, Unread, CutShort, Starved, Refused, way_of, refusal_2, refusal_13, status_usage, status_not_built}
-
--- no file and no call gives this failure
-abbrev of_no_file : Failure → Bool
-of_no_file Usage = true
-of_no_file NotBuilt = true
-of_no_file failure = false
+use Rattle.purecap.specs.Linking.{link_end, link_story}
+use Rattle.purecap.specs.Words.{Command, Show, Load, Link, LoadWords, command_of}
+use Rattle.purecap.specs.Story.{Product, Printed, Saved, Stop, stop_at, Story, stopped}
+use Rattle.purecap.specs.Answer.{failure_by, report_in, shown, printed, show_story, note_lines}
+use Rattle.purecap.specs.Run.{Stream, Disk, IsStill, IsKept, HasRisen, IsUntouched, IsNothing, IsGiven, IsGivenPart, IsCalm, IsLoaded, Says, Ends, end_status, Runs, output_count, IsPlain, IsAside, HasCauses}
+use Rattle.purecap.proofs.LinkEnds.{IsLinkEnd, link_end_is}
+use Rattle.purecap.proofs.Ways.{of_no_file, IsRefusal, Way, Done, Unread, CutShort, Starved, Refused, way_of, refusal_2, refusal_13, status_usage, status_not_built}
 
 -- a file gives none that the words alone give
 abbrev fails_so : {A : Type 0} → Result A Failure → Bool
@@ -70,10 +67,14 @@ loaded_fails : (image : List ℕ) (given : Result Product Stop) → IsLoaded ima
 loaded_fails image (Ok product) loaded = refl
 loaded_fails image (Err stop) loaded = ap (λ (s : Stop). of_no_file s.failure) loaded.1 ∙ cause_fails loaded.0.cause
 
--- a product of a command: `load` alone writes a file
+abbrev IsFile : Product → Type 0
+IsFile (Printed output) = ⊥
+IsFile (Saved name bytes memories) = Unit {0}
+
+-- a product of a command: `load` and `link` alone write a file
 abbrev IsOf : Result Command Failure → Product → Type 0
-IsOf (Ok (Load words)) (Printed output) = ⊥
-IsOf (Ok (Load words)) (Saved name bytes memories) = Unit {0}
+IsOf (Ok (Load words)) product = IsFile product
+IsOf (Ok (Link words)) product = IsFile product
 IsOf command (Printed output) = Unit {0}
 IsOf command (Saved name bytes memories) = ⊥
 
@@ -91,6 +92,14 @@ printed_product : (image : List ℕ) (answer : Result (List ℕ) Failure) (produ
 printed_product image (Ok report) (Printed output) is = tt
 printed_product image (Ok report) (Saved name bytes memories) is = cc
 printed_product image (Err failure) product is = cc
+
+link_fails : (given : Result Product Stop) → IsLinkEnd given → end_fails given ≡ false
+link_fails (Ok product) is = refl
+link_fails (Err stop) is = is
+
+link_product : (product : Product) → IsLinkEnd (Ok product) → IsFile product
+link_product (Printed output) is = is
+link_product (Saved name bytes memories) is = tt
 
 loaded_product : (words : LoadWords) (product : Product) → IsLoaded words.image (Ok product) → IsOf (Ok (Load words)) product
 loaded_product words (Printed output) loaded = loaded
@@ -116,6 +125,12 @@ faces (Ok (Load words)) disk out err kept end ends = record {
   by_words = λ failure path own is. absurd (not_defined ends.story.«end» failure path (loaded_fails words.image ends.story.«end» ends.loaded) own is);
   products = λ product is. loaded_product words product (subst (IsLoaded words.image) is ends.loaded);
 }
+faces (Ok (Link words)) disk out err kept end ends = record {
+  story = link_story words ends.found;
+  way = way_of (link_story words ends.found) disk out err kept end ends.ends;
+  by_words = λ failure path own is. absurd (not_defined (link_end words ends.found) failure path (link_fails (link_end words ends.found) (link_end_is words ends.found)) own is);
+  products = λ product is. link_product product (subst IsLinkEnd is (link_end_is words ends.found));
+}
 faces (Err f) disk out err kept end ends = record {
   story = stopped [] f;
   way = way_of (stopped [] f) disk out err kept end ends.ends;
@@ -133,6 +148,7 @@ gives_failure command disk out err kept end ends failure is =
 kept_count : (command : Result Command Failure) (disk : Disk) (out : Stream) → IsKept disk.writes → IsKept out.faults → IsKept (output_count command disk out)
 kept_count (Ok (Show image)) disk out writes faults = faults
 kept_count (Ok (Load words)) disk out writes faults = writes
+kept_count (Ok (Link words)) disk out writes faults = writes
 kept_count (Err failure) disk out writes faults = faults
 
 given_kept : (command : Result Command Failure) (disk : Disk) (out : Stream) (kept : List TaggedMemory) (product : Product) → IsOf command product → IsGiven product disk out kept → IsKept (output_count command disk out)
@@ -140,6 +156,8 @@ given_kept (Ok (Show image)) disk out kept (Printed output) of given = given.1.c
 given_kept (Ok (Show image)) disk out kept (Saved name bytes memories) of given = absurd of
 given_kept (Ok (Load words)) disk out kept (Printed output) of given = absurd of
 given_kept (Ok (Load words)) disk out kept (Saved name bytes memories) of given = given.0.count
+given_kept (Ok (Link words)) disk out kept (Printed output) of given = absurd of
+given_kept (Ok (Link words)) disk out kept (Saved name bytes memories) of given = given.0.count
 given_kept (Err failure) disk out kept (Printed output) of given = given.1.count
 given_kept (Err failure) disk out kept (Saved name bytes memories) of given = absurd of
 
@@ -149,6 +167,8 @@ part_rose (Ok (Show image)) disk out kept (Printed output) of given = given.1.ro
 part_rose (Ok (Show image)) disk out kept (Saved name bytes memories) of given = absurd of
 part_rose (Ok (Load words)) disk out kept (Printed output) of given = absurd of
 part_rose (Ok (Load words)) disk out kept (Saved name bytes memories) of given = given.0.rose
+part_rose (Ok (Link words)) disk out kept (Printed output) of given = absurd of
+part_rose (Ok (Link words)) disk out kept (Saved name bytes memories) of given = given.0.rose
 part_rose (Err failure) disk out kept (Printed output) of given = given.1.rose
 part_rose (Err failure) disk out kept (Saved name bytes memories) of given = absurd of
 
@@ -209,48 +229,70 @@ module _ (command : Result Command Failure) (disk : Disk) (out err : Stream) (ke
   none_kept (Starved e u) failed = u.nothing.none
   none_kept (Refused other e d r) failed = r.nothing.none
 
--- `load` writes nothing to standard output
-given_still : (words : LoadWords) (disk : Disk) (out : Stream) (kept : List TaggedMemory) (product : Product) → IsOf (Ok (Load words)) product → IsGiven product disk out kept → IsStill out
-given_still words disk out kept (Printed output) of given = absurd of
-given_still words disk out kept (Saved name bytes memories) of given = given.1
+-- a command that writes a file writes nothing to standard output
+given_still : (disk : Disk) (out : Stream) (kept : List TaggedMemory) (product : Product) → IsFile product → IsGiven product disk out kept → IsStill out
+given_still disk out kept (Printed output) of given = absurd of
+given_still disk out kept (Saved name bytes memories) of given = given.1
 
-part_still : (words : LoadWords) (disk : Disk) (out : Stream) (kept : List TaggedMemory) (product : Product) → IsOf (Ok (Load words)) product → IsGivenPart product disk out kept → IsStill out
-part_still words disk out kept (Printed output) of given = absurd of
-part_still words disk out kept (Saved name bytes memories) of given = given.1
+part_still : (disk : Disk) (out : Stream) (kept : List TaggedMemory) (product : Product) → IsFile product → IsGivenPart product disk out kept → IsStill out
+part_still disk out kept (Printed output) of given = absurd of
+part_still disk out kept (Saved name bytes memories) of given = given.1
 
-load_still : (words : LoadWords) (disk : Disk) (out err : Stream) (kept : List TaggedMemory) (end : Result Unit Failure) (story : Story) → ((product : Product) → story.«end» ≡ Ok product → IsOf (Ok (Load words)) product)
+file_still : (disk : Disk) (out err : Stream) (kept : List TaggedMemory) (end : Result Unit Failure) (story : Story) → ((product : Product) → story.«end» ≡ Ok product → IsFile product)
     → Way story disk out err kept end → IsStill out
-load_still words disk out err kept end story products (Done e d) = given_still words disk out kept d.product (products d.product d.defined) d.given
-load_still words disk out err kept end story products (Unread e u) = u.nothing.still
-load_still words disk out err kept end story products (CutShort e c) = part_still words disk out kept c.product (products c.product c.defined) c.given
-load_still words disk out err kept end story products (Starved e u) = u.nothing.still
-load_still words disk out err kept end story products (Refused other e d r) = r.nothing.still
+file_still disk out err kept end story products (Done e d) = given_still disk out kept d.product (products d.product d.defined) d.given
+file_still disk out err kept end story products (Unread e u) = u.nothing.still
+file_still disk out err kept end story products (CutShort e c) = part_still disk out kept c.product (products c.product c.defined) c.given
+file_still disk out err kept end story products (Starved e u) = u.nothing.still
+file_still disk out err kept end story products (Refused other e d r) = r.nothing.still
 
--- the other commands touch no file, keep nothing, and tell nothing where they succeed
-abbrev IsApart : Disk → Stream → List TaggedMemory → ℕ → Type 0
-IsApart disk err kept status = IsUntouched disk × (kept ≡ []) × (status ≡ 0 → IsStill err) × (status ≡ 12 → IsKept disk.reads)
+-- the other commands touch no file
+module _ (image : List ℕ) (disk : Disk) (out err : Stream) (kept : List TaggedMemory) (end : Result Unit Failure) (story : Story)
+    (products : (product : Product) → story.«end» ≡ Ok product → IsOf (Ok (Show image)) product) where
+  given_untouched : (product : Product) → IsOf (Ok (Show image)) product → IsGiven product disk out kept → IsUntouched disk
+  given_untouched (Printed output) of given = given.0
+  given_untouched (Saved name bytes memories) of given = absurd of
 
-module _ (image : List ℕ) (disk : Disk) (out err : Stream) (kept : List TaggedMemory) (end : Result Unit Failure) (story : Story) (none : story.notes ≡ [])
-    (calm : IsCalm disk.reads end) (products : (product : Product) → story.«end» ≡ Ok product → IsOf (Ok (Show image)) product) where
-  apart_given : (product : Product) → IsOf (Ok (Show image)) product → IsGiven product disk out kept → IsUntouched disk × (kept ≡ [])
-  apart_given (Printed output) of given = (given.0, given.2)
-  apart_given (Saved name bytes memories) of given = absurd of
+  part_untouched : (product : Product) → IsOf (Ok (Show image)) product → IsGivenPart product disk out kept → IsUntouched disk
+  part_untouched (Printed output) of given = given.0
+  part_untouched (Saved name bytes memories) of given = absurd of
 
-  apart_part : (product : Product) → IsOf (Ok (Show image)) product → IsGivenPart product disk out kept → IsUntouched disk × (kept ≡ [])
-  apart_part (Printed output) of given = (given.0, given.2)
-  apart_part (Saved name bytes memories) of given = absurd of
+  untouched : Way story disk out err kept end → IsUntouched disk
+  untouched (Done e d) = given_untouched d.product (products d.product d.defined) d.given
+  untouched (Unread e u) = u.nothing.untouched
+  untouched (CutShort e c) = part_untouched c.product (products c.product c.defined) c.given
+  untouched (Starved e u) = u.nothing.untouched
+  untouched (Refused other e d r) = r.nothing.untouched
 
-  apart : Way story disk out err kept end → IsApart disk err kept (end_status end)
-  apart (Done e d) =
-      let given = apart_given d.product (products d.product d.defined) d.given in
-      (given.0, given.1, λ is. subst (λ (notes : _). Says err (note_lines notes)) none d.says, λ is. let s = sym is ∙ ap end_status e in absurd (omega (arith, s)))
-  apart (Unread e u) = (u.nothing.untouched, u.nothing.none, λ is. let s = sym is ∙ ap end_status e in absurd (omega (arith, s)), λ is. let s = sym is ∙ ap end_status e in absurd (omega (arith, s)))
-  apart (CutShort e c) =
-      let given = apart_part c.product (products c.product c.defined) c.given in
-      (given.0, given.1, λ is. let s = sym is ∙ ap end_status e in absurd (omega (arith, s)), λ is. let s = sym is ∙ ap end_status e in absurd (omega (arith, s)))
-  apart (Starved e u) = (u.nothing.untouched, u.nothing.none, λ is. let s = sym is ∙ ap end_status e in absurd (omega (arith, s)), λ is. calm e)
-  apart (Refused other e d r) =
-      (r.nothing.untouched, r.nothing.none, λ is. absurd (d.not_done (sym (ap end_status e) ∙ is)), λ is. absurd (d.not_starved (sym (ap end_status e) ∙ is)))
+-- a product without memories
+abbrev IsBare : Product → Type 0
+IsBare (Printed output) = Unit {0}
+IsBare (Saved name bytes memories) = memories ≡ []
+
+shown_bare : (image : List ℕ) (product : Product) → IsOf (Ok (Show image)) product → IsBare product
+shown_bare image (Printed output) of = tt
+shown_bare image (Saved name bytes memories) of = absurd of
+
+link_bare : (product : Product) → IsLinkEnd (Ok product) → IsBare product
+link_bare (Printed output) is = absurd is
+link_bare (Saved name bytes memories) is = is
+
+-- a command but `load` keeps nothing, and tells nothing where it succeeds
+module _ (disk : Disk) (out err : Stream) (kept : List TaggedMemory) (end : Result Unit Failure) (story : Story) (none : story.notes ≡ [])
+    (calm : IsCalm disk.reads end) (bare : (product : Product) → story.«end» ≡ Ok product → IsBare product) where
+  bare_given : (product : Product) → IsBare product → IsGiven product disk out kept → kept ≡ []
+  bare_given (Printed output) bare given = given.2
+  bare_given (Saved name bytes memories) bare given = given.2 ∙ bare
+
+  plain : Way story disk out err kept end → IsPlain disk err kept (end_status end)
+  plain (Done e d) =
+      (bare_given d.product (bare d.product d.defined) d.given, λ is. subst (λ (notes : _). Says err (note_lines notes)) none d.says, λ is. let s = sym is ∙ ap end_status e in absurd (omega (arith, s)))
+  plain (Unread e u) = (u.nothing.none, λ is. let s = sym is ∙ ap end_status e in absurd (omega (arith, s)), λ is. let s = sym is ∙ ap end_status e in absurd (omega (arith, s)))
+  plain (CutShort e c) =
+      (part_unkept disk out kept c.product c.given, λ is. let s = sym is ∙ ap end_status e in absurd (omega (arith, s)), λ is. let s = sym is ∙ ap end_status e in absurd (omega (arith, s)))
+  plain (Starved e u) = (u.nothing.none, λ is. let s = sym is ∙ ap end_status e in absurd (omega (arith, s)), λ is. calm e)
+  plain (Refused other e d r) =
+      (r.nothing.none, λ is. absurd (d.not_done (sym (ap end_status e) ∙ is)), λ is. absurd (d.not_starved (sym (ap end_status e) ∙ is)))
 
 no_notes : (image : List ℕ) (answer : Result (List ℕ) Failure) → (printed image answer).notes ≡ []
 no_notes image (Ok bytes) = refl
@@ -259,11 +301,20 @@ no_notes image (Err failure) = refl
 aside : (command : Result Command Failure) (disk : Disk) (out err : Stream) (kept : List TaggedMemory) (end : Result Unit Failure) → Ends command disk out err kept end
     → IsAside command disk out err kept (end_status end)
 aside (Ok (Show image)) disk out err kept end ends =
-    apart image disk out err kept end (show_story image ends.file) (no_notes image (shown ends.file)) ends.calm (printed_product image (shown ends.file)) (way_of _ disk out err kept end ends.ends)
+    let story = show_story image ends.file in
+    let products = printed_product image (shown ends.file) in
+    let way = way_of story disk out err kept end ends.ends in
+    (untouched image disk out err kept end story products way, plain disk out err kept end story (no_notes image (shown ends.file)) ends.calm (λ product is. shown_bare image product (products product is)) way)
 aside (Ok (Load words)) disk out err kept end ends =
-    let face = faces (Ok (Load words)) disk out err kept end ends in load_still words disk out err kept end face.story face.products face.way
+    let face = faces (Ok (Load words)) disk out err kept end ends in file_still disk out err kept end face.story face.products face.way
+aside (Ok (Link words)) disk out err kept end ends =
+    let face = faces (Ok (Link words)) disk out err kept end ends in (
+      file_still disk out err kept end face.story face.products face.way,
+      plain disk out err kept end (link_story words ends.found) refl ends.calm (λ product is. link_bare product (subst IsLinkEnd is (link_end_is words ends.found))) (way_of _ disk out err kept end ends.ends),
+    )
 aside (Err failure) disk out err kept end ends =
-    apart [] disk out err kept end (stopped [] failure) refl ends.calm (λ product is. cc) (way_of _ disk out err kept end ends.ends)
+    let way = way_of (stopped [] failure) disk out err kept end ends.ends in
+    (untouched [] disk out err kept end (stopped [] failure) (λ product is. cc) way, plain disk out err kept end (stopped [] failure) refl ends.calm (λ product is. cc) way)
 
 -- the causes, for the status of the end
 end_causes : (words : List (List ℕ)) (disk : Disk) (out err : Stream) (kept : List TaggedMemory) (end : Result Unit Failure) → Ends (command_of words) disk out err kept end

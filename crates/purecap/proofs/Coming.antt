@@ -18,7 +18,8 @@ use Rattle.cap_session.specs.Refused.{CauseCounted}
 use Rattle.purecap.specs.declared.faults.Failure.{Failure}
 use Rattle.purecap.specs.Faults.{failure_of, refusal_line}
 use Rattle.purecap.specs.Words.{LoadWords}
-use Rattle.purecap.specs.Answer.{Product, Saved, Stop, Story, saved, story_of, state_image, note_lines}
+use Rattle.purecap.specs.Story.{Product, Saved, Stop, Story}
+use Rattle.purecap.specs.Answer.{saved, story_of, state_image, note_lines}
 use Rattle.purecap.specs.Run.{Count, Stream, streamed, Disk, stored, IsStill, IsUntouched, IsNothing, IsLoaded, EndsAs, Says, Loads}
 use Rattle.purecap.specs.Calling.{Told, Tells, Leads, LeadsOn, EndsCalls, HasCalled, IsEnded, Writes, Comes, kept_by, with_notes, load_outcome}
 use Rattle.purecap.proofs.Said.{says_last, says_same}

@@ -6,8 +6,12 @@ use Rattle.cap_session.specs.declared.refusal.OpenCause.TheVariants as causes
 use Rattle.purecap.specs.declared.faults.Failure.{Failure}
 use Rattle.purecap.specs.declared.faults.Failure.TheVariants.{Usage, NoFile, Malformed, Unsupported, Unresolved, Inexact, Full, Limit, ReadFault, WriteFault, NoMemory, NotBuilt}
 use Rattle.purecap.specs.Faults.{line_of}
-use Rattle.purecap.specs.Words.{Command, Show, Load, LoadWords, FailsAs}
-use Rattle.purecap.specs.Answer.{Printed, Story, stopped, printed, shown, show_story, load_story}
+use Rattle.purecap.specs.WordRules.{FailsAs}
+use Rattle.purecap.specs.Linking.{link_story}
+use Rattle.purecap.proofs.LinkSteps.{some_found}
+use Rattle.purecap.specs.Words.{Command, Show, Load, Link, LoadWords}
+use Rattle.purecap.specs.Story.{Printed, Story, stopped}
+use Rattle.purecap.specs.Answer.{printed, shown, show_story, load_story}
 use Rattle.purecap.specs.Run.{Stream, Disk, IsStill, IsKept, IsUntouched, IsNothing, IsDone, IsRefused, IsCutShort, IsStarved, EndsAs, Says, IsLoaded, Shows, Ends, IsOfWords}
 use Rattle.purecap.specs.Printing.{IsUnprinted, PrintsAs, Prints, shown_path}
 use Rattle.purecap.proofs.Ways.{is_of_words, or_fails}
@@ -90,6 +94,9 @@ module _ (disk : Disk) (out err : Stream) (kept : List TaggedMemory) (nothing : 
   starves (Ok (Load words)) says =
       let some = some_load disk.old words in
       record { story = some.story; is_story = some.is_story; loaded = some.loaded; ends = starved some.story says }
+  starves (Ok (Link words)) says =
+      let some = some_found disk.old words.inputs in
+      record { found = some.0; are_found = some.1; ends = starved (link_story words some.0) says; calm = λ e. reads }
   starves (Err failure) says = record { is_end = inr refl; ends = starved (stopped [] failure) says; calm = λ e. reads }
 
   -- the words fail

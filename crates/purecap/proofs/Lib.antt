@@ -2,6 +2,9 @@ pub mod Hex
 pub mod Ways
 pub mod Shown
 pub mod Parsing
+pub mod LinkParsing
+pub mod Passing
+pub mod LinkAccepted
 pub mod Accepted
 pub mod WordFaults
 pub mod Said
@@ -10,5 +13,7 @@ pub mod Steps
 pub mod Written
 pub mod Coming
 pub mod Ended
+pub mod LinkSteps
+pub mod LinkEnds
 pub mod Causes
 pub mod Answered

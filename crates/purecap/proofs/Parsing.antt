@@ -15,7 +15,8 @@ use Rattle.clap.specs.declared.parser.matches.Found.{Found}
 use Rattle.clap.proofs.OnLiterals.{clap_on_literals}
 use Rattle.clap.proofs.WalkLemmas.{first_value-rows, raw_values-rows, list_any-map, both}
 use Rattle.purecap.specs.declared.faults.Failure.TheVariants.{Usage}
-use Rattle.purecap.specs.Words.{call_meant, has_long_name, is_long, show_app, load_app, unless_faulty, parsed, value_of, values_of}
+use Rattle.purecap.specs.WordRules.{is_long, unless_faulty, parsed, value_of, values_of}
+use Rattle.purecap.specs.Words.{call_meant, has_long_name, show_app, load_app}
 
 taken : (kinds : List ErrorKind) (rows found : List Row) → kinds ≡ [] → found ≡ rows → unless_faulty kinds rows ≡ Ok found
 taken kinds rows found none same = ap (λ k. unless_faulty k rows) none ∙ ap (λ r. Ok r) (sym same)

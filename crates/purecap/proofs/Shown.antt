@@ -16,6 +16,7 @@ use Rattle.purecap.specs.Answer.{report_in, shown}
 use Rattle.purecap.specs.Reading.{unread, IsFailureOf}
 use Rattle.purecap.specs.Run.{Count, Stream, IsStill, IsKept, Outputs}
 use Rattle.purecap.specs.Printing.{PrintsAs, Prints}
+use Rattle.purecap.specs.Inputs.{Has}
 
 -- there are bytes that are more than the limit
 large : (limit : ℕ) → (bytes : List ℕ) × (limit < length bytes)
@@ -32,37 +33,33 @@ report_beyond bytes beyond =
     let larger : nat_lt (2 ^ 31) (length bytes) ≡ true = grind (arith, nat_tests) in
     ap (λ (t : Bool). cond t (Err (Limit (number_of FileSize))) (report_in (read_image bytes))) larger
 
--- what the store has, where it tells
-abbrev pub Has : Option Store → List ℕ → Option (List ℕ) → Type 0
-Has told image file = IfSome told (λ store. file ≡ file_in store image)
-
 pub some_file : (told : Option Store) (image : List ℕ) → (file : Option (List ℕ)) × Has told image file
 some_file None image = (None, tt)
 some_file (Some store) image = (file_in store image, refl)
 
-no_file : (told : Option Store) (image : List ℕ) → FileRefused told image (2 ^ 31) files.NoFile → Has told image None
-no_file None image is = tt
-no_file (Some store) image is = sym is
+pub no_file : (told : Option Store) (image : List ℕ) (limit : ℕ) → FileRefused told image limit files.NoFile → Has told image None
+no_file None image limit is = tt
+no_file (Some store) image limit is = sym is
 
-this_file : (told : Option Store) (image bytes : List ℕ) → IsFile told image (2 ^ 31) bytes → Has told image (Some bytes)
-this_file None image bytes is = tt
-this_file (Some store) image bytes is = sym is.1
+pub this_file : (told : Option Store) (image bytes : List ℕ) (limit : ℕ) → IsFile told image limit bytes → Has told image (Some bytes)
+this_file None image bytes limit is = tt
+this_file (Some store) image bytes limit is = sym is.1
 
 larger_is : (file : Option (List ℕ)) (limit : ℕ) → IsLarger file limit → (bytes : List ℕ) × (Some bytes ≡ file) × (limit < length bytes)
 larger_is None limit is = absurd is
 larger_is (Some bytes) limit is = (bytes, refl, is)
 
-large_file : (told : Option Store) (image : List ℕ) → FileRefused told image (2 ^ 31) files.TooLarge → (bytes : List ℕ) × Has told image (Some bytes) × (2 ^ 31 < length bytes)
-large_file None image is = let some = large (2 ^ 31) in (some.0, tt, some.1)
-large_file (Some store) image is = larger_is (file_in store image) (2 ^ 31) is
+pub large_file : (told : Option Store) (image : List ℕ) (limit : ℕ) → FileRefused told image limit files.TooLarge → (bytes : List ℕ) × Has told image (Some bytes) × (limit < length bytes)
+large_file None image limit is = let some = large limit in (some.0, tt, some.1)
+large_file (Some store) image limit is = larger_is (file_in store image) limit is
 
 -- the file was not read
 pub shows_unread : (told : Option Store) (image : List ℕ) (reads : Count) (out : Stream) (refusal : FileRefusal) → FileRefused told image (2 ^ 31) refusal
     → FaultCounted {T = Unit {0}} reads.before reads.now (Err refusal) → IsStill out → Prints told image reads out (Err (unread refusal))
 shows_unread told image reads out files.NoFile is counted still =
-    record { file = None; is_file = no_file told image is; ends = record { defined = refl; still = still; reads_kept = counted } }
+    record { file = None; is_file = no_file told image (2 ^ 31) is; ends = record { defined = refl; still = still; reads_kept = counted } }
 shows_unread told image reads out files.TooLarge is counted still =
-    let some = large_file told image is in
+    let some = large_file told image (2 ^ 31) is in
     record { file = Some some.0; is_file = some.1; ends = record { defined = report_beyond some.0 some.2; still = still; reads_kept = counted } }
 shows_unread told image reads out files.Fault is counted still =
     let some = some_file told image in record { file = some.0; is_file = some.1; ends = record { still = still; rose = counted.1 } }
@@ -74,7 +71,7 @@ pub shows_read : (told : Option Store) (image bytes : List ℕ) (reads : Count) 
     → PrintsAs (report_in (read_image bytes)) reads out end → Prints told image reads out end
 shows_read told image bytes reads out end is ends = record {
   file = Some bytes;
-  is_file = this_file told image bytes is;
+  is_file = this_file told image bytes (2 ^ 31) is;
   ends = subst (λ (answer : Result (List ℕ) Failure). PrintsAs answer reads out end) (sym (report_within bytes is.0)) ends;
 }
 

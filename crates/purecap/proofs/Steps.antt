@@ -119,13 +119,13 @@ begin_leads (Some store) words s is dir rule = (
       ∙ ap (λ r. Some (outcome_from (fetch_from store) s.dir r words.calls (Ok is.0))) (sym rule),
 )
 
--- the next call
-pub next_call : (calls : List CallWord) (i : ℕ) (call : CallWord) → i < length calls → call ≡ get_or calls i call → map call_meant (drop i calls) ≡ call_meant call ∷ map call_meant (drop (i + 1) calls)
-next_call calls i call below is =
+-- the next of some items, each seen by f
+pub next_item : {A B : Type 0} (f : A → B) (xs : List A) (i : ℕ) (x : A) → i < length xs → x ≡ get_or xs i x → map f (drop i xs) ≡ f x ∷ map f (drop (i + 1) xs)
+next_item f xs i x below is =
     let next : suc i ≡ i + 1 = omega arith in
-    ap (map call_meant) (drop-cons calls i call below)
-    ∙ ap (λ (c : CallWord). call_meant c ∷ map call_meant (drop (suc i) calls)) (sym is)
-    ∙ ap (λ (n : ℕ). call_meant call ∷ map call_meant (drop n calls)) next
+    ap (map f) (drop-cons xs i x below)
+    ∙ ap (λ y. f y ∷ map f (drop (suc i) xs)) (sym is)
+    ∙ ap (λ (n : ℕ). f x ∷ map f (drop n xs)) next
 
 -- the names of calls that were accepted
 pub calls_named : (calls : List CallWord) → All IsCallName (map call_meant calls) → All (λ call. IsName (string_bytes call.name)) calls

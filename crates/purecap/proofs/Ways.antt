@@ -4,7 +4,7 @@ use Rattle.cap_mem.specs.Tagged.{TaggedMemory}
 use Rattle.purecap.specs.declared.faults.Failure.{Failure}
 use Rattle.purecap.specs.declared.faults.Failure.TheVariants.{Usage, NoFile, Malformed, Unsupported, Unresolved, Inexact, Full, Limit, ReadFault, WriteFault, NoMemory, NotBuilt}
 use Rattle.purecap.specs.Faults.{status_of}
-use Rattle.purecap.specs.Answer.{Story}
+use Rattle.purecap.specs.Story.{Story}
 use Rattle.purecap.specs.Run.{Stream, Disk, IsDone, IsCutShort, IsRefused, IsUnread, IsStarved, EndsAs}
 
 -- a failure that the words define
@@ -13,6 +13,12 @@ is_of_words Usage = true
 is_of_words NotBuilt = true
 is_of_words (Limit check) = true
 is_of_words failure = false
+
+-- no file and no call gives this failure
+abbrev pub of_no_file : Failure → Bool
+of_no_file Usage = true
+of_no_file NotBuilt = true
+of_no_file failure = false
 
 -- the test holds of the failure, where there is one
 abbrev pub or_fails : {A : Type 0} → (Failure → Bool) → Result A Failure → Bool

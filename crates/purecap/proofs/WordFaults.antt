@@ -14,7 +14,11 @@ use Rattle.cap_base.specs.declared.check.Check.TheVariants.{CallCount}
 use Rattle.cap_session.specs.declared.form.Form.TheVariants as forms
 use Rattle.purecap.specs.declared.faults.Failure.{Failure}
 use Rattle.purecap.specs.declared.faults.Failure.TheVariants.{Usage, Limit, NotBuilt}
-use Rattle.purecap.specs.Words.{Show, Load, LoadWords, asked_by, call_of, command_of, form_of, has_long_name, is_long, is_name, is_path, load_app, load_of, load_words, parsed, refuse, show_app, show_of, show_words, too_long, unless_faulty, value_of, values_of}
+use Rattle.purecap.specs.WordRules.{is_long, is_name, is_path, parsed, refuse, too_long, unless_faulty, value_of, values_of}
+use Rattle.std.specs.Option.{option_map_or}
+use Rattle.std.specs.List.{list_any}
+use Rattle.purecap.specs.LinkWords.{LinkWords, asked_by as link_asked, is_no_name, is_no_path, link_app, link_of, link_words}
+use Rattle.purecap.specs.Words.{Show, Load, Link, LoadWords, asked_by, call_of, command_of, form_of, has_long_name, load_app, load_of, load_words, show_app, show_of, show_words}
 use Rattle.purecap.proofs.Ways.{is_of_words, or_fails}
 
 abbrev Fits : {A : Type 0} → Result A Failure → Type 0
@@ -87,10 +91,27 @@ load_words_fail words =
     bind_fails (parsed load_app words) _ (parsed_fails load_app words) (λ rows.
     bind_fails (gather call_of (values_of rows (codes "call"))) _ (calls_fail (values_of rows (codes "call"))) (λ calls. load_fails (asked_by rows calls)))
 
+link_fails : (asked : LinkWords) → Fits (link_of asked)
+unfolding link_of
+link_fails asked =
+    let output = refuse_fails (is_no_path asked.output) Usage refl in
+    let inputs = then_fails _ _ output (refuse_fails (list_any is_no_path asked.inputs) Usage refl) in
+    let soname = then_fails _ _ inputs (refuse_fails (option_map_or is_no_name asked.soname false) Usage refl) in
+    let short_output = then_fails _ _ soname (refuse_fails (is_long asked.output) too_long refl) in
+    let short_inputs = then_fails _ _ short_output (refuse_fails (list_any is_long asked.inputs) too_long refl) in
+    let short_soname = then_fails _ _ short_inputs (refuse_fails (option_map_or is_long asked.soname false) too_long refl) in
+    let few = then_fails _ _ short_soname (refuse_fails (nat_lt 256 (length asked.inputs)) (Limit (number_of CallCount)) refl) in
+    then_fails _ (Ok asked) few refl
+
+link_words_fail : (words : List Text) → Fits (link_words words)
+unfolding link_words
+link_words_fail words = bind_fails (parsed link_app words) _ (parsed_fails link_app words) (λ rows. link_fails (link_asked rows))
+
 pub words_fail : (words : List Text) → or_fails is_of_words (command_of words) ≡ true
 unfolding command_of
 words_fail [] = refl
 words_fail (first ∷ words) =
     choice_fails (bytes_eq first (codes "show")) (show_words (first ∷ words)) _ (show_words_fail (first ∷ words))
     (choice_fails (bytes_eq first (codes "load")) (load_words (first ∷ words)) _ (load_words_fail (first ∷ words))
-    (choice_fails (bytes_eq first (codes "link") || bytes_eq first (codes "demo")) (Err NotBuilt) (Err Usage) refl refl))
+    (choice_fails (bytes_eq first (codes "link")) (link_words (first ∷ words) >>= λ asked. Ok (Link asked)) _ (bind_fails (link_words (first ∷ words)) _ (link_words_fail (first ∷ words)) (λ asked. refl))
+    (choice_fails (bytes_eq first (codes "demo")) (Err NotBuilt) (Err Usage) refl refl)))

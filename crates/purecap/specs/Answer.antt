@@ -19,7 +19,10 @@ use Rattle.cap_session.specs.Calls.{Outcome, outcome_of}
 use Rattle.purecap.specs.declared.faults.Failure.{Failure}
 use Rattle.purecap.specs.declared.faults.Failure.TheVariants.{NoFile, Malformed, Unsupported, Limit}
 use Rattle.purecap.specs.Faults.{failure_of, refusal_line, status_of, line_of}
-use Rattle.purecap.specs.Words.{Command, Show, Load, LoadWords, command_of}
+use Rattle.purecap.specs.Words.{Command, Show, Load, Link, LoadWords, command_of}
+use Rattle.purecap.specs.Story.{Product, Printed, Saved, Stop, stop_at, Story, stopped}
+use Rattle.purecap.specs.LinkWords.{LinkWords}
+use Rattle.purecap.specs.Linking.{found_in, link_story}
 
 -- the failure of a check, by its class
 abbrev pub failure_by : Class → ℕ → ℕ → Failure
@@ -44,29 +47,6 @@ file_report bytes = if nat_lt (2 ^ 31) (length bytes) then Err (Limit (number_of
 abbrev pub shown : Option (List ℕ) → Result (List ℕ) Failure
 shown None = Err NoFile
 shown (Some bytes) = file_report bytes
-
--- what a command gives: bytes on standard output, or a file of this name and these bytes, and the memories of what was
--- loaded
-pub data Product : Type 0 where
-  Printed : List ℕ → Product
-  Saved : List ℕ → List ℕ → List TaggedMemory → Product
-
--- a failure, over the file of this path
-pub record Stop : Type 0 where
-  pub path : List ℕ
-  pub failure : Failure
-
-abbrev pub stop_at : List ℕ → Failure → Stop
-stop_at path failure = record { path = path; failure = failure }
-
--- what a command comes to, if its words and the files alone decide: the refusals that it passes over, and what it gives
--- or why it fails
-pub record Story : Type 0 where
-  pub notes : List OpenRefusal
-  pub «end» : Result Product Stop
-
-abbrev pub stopped : List ℕ → Failure → Story
-stopped path failure = record { notes = []; «end» = Err (stop_at path failure) }
 
 -- `show`, of this report
 abbrev pub printed : List ℕ → Result (List ℕ) Failure → Story
@@ -100,6 +80,7 @@ load_story words store = story_of words.image (outcome_of (fetch_from store) wor
 abbrev pub command_story : Result Command Failure → Store → Story
 command_story (Ok (Show image)) store = show_story image (file_in store image)
 command_story (Ok (Load words)) store = load_story words store
+command_story (Ok (Link words)) store = link_story words (map (found_in store) words.inputs)
 command_story (Err failure) store = stopped [] failure
 
 -- an answer: the status, the bytes for standard output, the lines for the error output, the file that is entered in the

@@ -17,7 +17,8 @@ use Rattle.purecap.specs.declared.faults.Failure.{Failure}
 use Rattle.purecap.specs.declared.faults.Failure.TheVariants as failures
 use Rattle.purecap.specs.Faults.{failure_of, line_of, refusal_line}
 use Rattle.purecap.specs.Words.{LoadWords}
-use Rattle.purecap.specs.Answer.{Story, story_of, note_lines}
+use Rattle.purecap.specs.Story.{Story}
+use Rattle.purecap.specs.Answer.{story_of, note_lines}
 use Rattle.purecap.specs.Run.{Count, Stream, Disk, IsStill, IsKept, Says, IsUntouched, IsEntered, IsBroken, IsLoaded, EndsAs}
 
 -- whether the lines so far were written whole
@@ -133,9 +134,9 @@ abbrev pub IsLast : List ℕ → Failure → Stream → Told → Type 0
 IsLast path failure err so_far = (next : Told) × SendsNext so_far err.old err.new err.faults.before err.faults.now (line_of path failure) next
 
 -- these bytes were written in a file, or a front of them
-abbrev pub SavesImage : List ℕ → List ℕ → Disk → Stream → Told → Result Unit Failure → Type 0
-SavesImage image bytes disk err so_far (Ok _) = IsEntered disk image bytes × IsStill err × IsKept disk.reads
-SavesImage image bytes disk err so_far (Err failure) =
+abbrev pub SavesFile : List ℕ → List ℕ → Disk → Stream → Told → Result Unit Failure → Type 0
+SavesFile image bytes disk err so_far (Ok _) = IsEntered disk image bytes × IsStill err × IsKept disk.reads
+SavesFile image bytes disk err so_far (Err failure) =
     (failure ≡ failures.WriteFault) × IsBroken disk image bytes × IsLast image failures.WriteFault err so_far × IsKept disk.reads
 
 -- memory ran out before a file was created
@@ -145,7 +146,7 @@ IsUnwritten disk err so_far = IsUntouched disk × IsLast [] failures.NoMemory er
 -- the image of a session was written, or a front of it, or memory ran out
 abbrev pub Writes : SessionValue → List ℕ → Disk → Stream → Told → Result Unit Failure → Type 0
 Writes s image disk err so_far end =
-    SavesImage image (image_bytes (image_of s.names s.symbols s.memories)) disk err so_far end
+    SavesFile image (image_bytes (image_of s.names s.symbols s.memories)) disk err so_far end
     ⊎ ((end ≡ Err failures.NoMemory) × IsUnwritten disk err so_far)
 
 -- what a start and calls with this outcome come to, and how it ended

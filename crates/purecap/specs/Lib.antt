@@ -1,7 +1,12 @@
 pub mod Faults
+pub mod WordRules
+pub mod LinkWords
 pub mod Words
+pub mod Story
+pub mod Linking
 pub mod Answer
 pub mod Reading
 pub mod Run
 pub mod Printing
 pub mod Calling
+pub mod Inputs

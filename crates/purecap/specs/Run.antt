@@ -1,5 +1,5 @@
 -- What a run leaves, and the causes of its answers.
-use Rattle.std.specs.Prelude.{◌≡◌, ◌≢◌, ◌<◌, ◌≤◌, ◌⊎◌, ℕ, Bool, List, [], ◌∷◌, ◌++◌, flat_map, codes, Option, Some, None, IfSome, Result, Ok, Err}
+use Rattle.std.specs.Prelude.{◌≡◌, ◌≢◌, ◌<◌, ◌≤◌, ◌⊎◌, ℕ, Bool, List, [], ◌∷◌, ◌++◌, map, flat_map, codes, Option, Some, None, IfSome, Result, Ok, Err}
 use Rattle.std.specs.Io.KnownBytes.{Appends}
 use Rattle.cap_base.specs.Outside.{Store, file_in, with_file, Rose, AppendsFront}
 use Rattle.cap_base.specs.SaveFile.{WritesFront}
@@ -9,8 +9,11 @@ use Rattle.cap_session.specs.declared.refusal.OpenRefusal.{OpenRefusal}
 use Rattle.purecap.specs.declared.faults.Failure.{Failure}
 use Rattle.purecap.specs.declared.faults.Failure.TheVariants.{Usage, Limit, ReadFault, WriteFault, NoMemory, NotBuilt}
 use Rattle.purecap.specs.Faults.{failure_of, status_of, line_of}
-use Rattle.purecap.specs.Words.{Command, Show, Load, LoadWords, command_of}
-use Rattle.purecap.specs.Answer.{Product, Printed, Saved, Stop, stop_at, Story, stopped, show_story, load_story, note_lines, lines_before, Answer, answer_to}
+use Rattle.purecap.specs.Words.{Command, Show, Load, Link, LoadWords, command_of}
+use Rattle.purecap.specs.LinkWords.{LinkWords}
+use Rattle.purecap.specs.Linking.{Found, found_in, link_story}
+use Rattle.purecap.specs.Story.{Product, Printed, Saved, Stop, stop_at, Story, stopped}
+use Rattle.purecap.specs.Answer.{show_story, load_story, note_lines, lines_before, Answer, answer_to}
 
 -- a count of faults, before a run and after it
 pub record Count : Type 0 where
@@ -189,6 +192,19 @@ pub record Loads (words : LoadWords) (disk : Disk) (out err : Stream) (kept : Li
   pub loaded : IsLoaded words.image story.«end»
   pub ends : EndsAs story disk out err kept end
 
+-- what a store has under these words, where it tells its files
+pub record AreFound (told : Option Store) (words : List (List ℕ)) (found : List Found) : Type 0 where
+  pub words_are : map (λ f. f.0) found ≡ words
+  pub files_are : IfSome told (λ store. found ≡ map (found_in store) words)
+
+-- how `link` ends, whether the store tells its files or not: there is something that it has under each word, or nothing,
+-- and that decides
+pub record Links (words : LinkWords) (disk : Disk) (out err : Stream) (kept : List TaggedMemory) (end : Result Unit Failure) : Type 0 where
+  pub found : List Found
+  pub are_found : AreFound disk.old words.inputs found
+  pub ends : EndsAs (link_story words found) disk out err kept end
+  pub calm : IsCalm disk.reads end
+
 -- a failure of the words alone
 abbrev pub IsOfWords : Failure → Type 0
 IsOfWords Usage = Unit {0}
@@ -206,6 +222,7 @@ pub record Fails (failure : Failure) (disk : Disk) (out err : Stream) (kept : Li
 abbrev pub Ends : Result Command Failure → Disk → Stream → Stream → List TaggedMemory → Result Unit Failure → Type 0
 Ends (Ok (Show image)) disk out err kept end = Shows image disk out err kept end
 Ends (Ok (Load words)) disk out err kept end = Loads words disk out err kept end
+Ends (Ok (Link words)) disk out err kept end = Links words disk out err kept end
 Ends (Err failure) disk out err kept end = Fails failure disk out err kept end
 
 abbrev pub end_status : Result Unit Failure → ℕ
@@ -255,12 +272,18 @@ Answers words disk out err kept status =
 -- the count of the output to which a command writes
 abbrev pub output_count : Result Command Failure → Disk → Stream → Count
 output_count (Ok (Load words)) disk out = disk.writes
+output_count (Ok (Link words)) disk out = disk.writes
 output_count command disk out = out.faults
 
--- `load` alone writes a file, keeps memories and passes over refusals, and it prints nothing
+-- it keeps no memories and passes over nothing
+abbrev pub IsPlain : Disk → Stream → List TaggedMemory → ℕ → Type 0
+IsPlain disk err kept status = (kept ≡ []) × (status ≡ 0 → IsStill err) × (status ≡ 12 → IsKept disk.reads)
+
+-- `load` and `link` alone write a file, and they print nothing; `load` alone keeps memories and passes over refusals
 abbrev pub IsAside : Result Command Failure → Disk → Stream → Stream → List TaggedMemory → ℕ → Type 0
 IsAside (Ok (Load words)) disk out err kept status = IsStill out
-IsAside command disk out err kept status = IsUntouched disk × (kept ≡ []) × (status ≡ 0 → IsStill err) × (status ≡ 12 → IsKept disk.reads)
+IsAside (Ok (Link words)) disk out err kept status = IsStill out × IsPlain disk err kept status
+IsAside command disk out err kept status = IsUntouched disk × IsPlain disk err kept status
 
 -- the causes of the answers, over any store and any sinks
 pub record HasCauses (words : List (List ℕ)) (disk : Disk) (out err : Stream) (kept : List TaggedMemory) (status : ℕ) : Type 0 where

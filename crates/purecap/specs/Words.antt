@@ -25,6 +25,8 @@ use Rattle.purecap.specs.declared.words.Command.{Command as Given}
 use Rattle.purecap.specs.declared.words.Command.TheVariants as given
 use Rattle.purecap.specs.declared.words.LoadWords.{LoadWords as GivenLoad}
 use Rattle.purecap.specs.declared.words.CallWord.{CallWord}
+use Rattle.purecap.specs.WordRules.{operand, last_operands, required_option, option_or, flag, parsed, value_of, values_of, refuse, has_slash, is_long, is_name, is_path, too_long}
+use Rattle.purecap.specs.LinkWords.{LinkWords, IsLink, link_meant, link_words}
 
 -- what `load` is asked for
 pub record LoadWords : Type 0 where
@@ -38,27 +40,9 @@ pub record LoadWords : Type 0 where
 pub data Command : Type 0 where
   Show : List ℕ → Command
   Load : LoadWords → Command
+  Link : LinkWords → Command
 
 -- ---- the command lines
-
--- a word in a place of its own, which must be there
-abbrev pub operand : Text → Rule
-operand id = record (new_rule id) { required = true }
-
--- the words behind all other operands, as many as there are
-abbrev pub last_operands : Text → Rule
-last_operands id = record (new_rule id) { range = Some (record { start_inclusive = 1; end_inclusive = usize_max }) }
-
--- a value behind a letter, which must be there, or is `value` where it is not; it is there once at most
-abbrev pub required_option : Text → ℕ → Rule
-required_option id letter = record (new_rule id) { short = Some letter; required = true }
-
-abbrev pub option_or : Text → ℕ → Text → Rule
-option_or id letter value = record (new_rule id) { short = Some letter; defaults = value ∷ [] }
-
--- a word that is there or is not
-abbrev pub flag : Text → Rule
-flag id = record (new_rule id) { long = Some id; action = Some SetTrue }
 
 -- `show IMAGE`
 unfoldable pub show_app : App
@@ -71,44 +55,7 @@ load_app =
     (required_option (codes "image") 0x6f)) (option_or (codes "dir") 0x4c (codes "."))) (flag (codes "first-found")))
     (operand (codes "main"))) (last_operands (codes "call"))
 
--- the matches of words that have no fault; a call for help is one
-abbrev pub unless_faulty : Kinds → List Row → Result (List Row) Failure
-unless_faulty [] rows = Ok rows
-unless_faulty (kind ∷ kinds) rows = Err Usage
-
--- what the words give to each argument
-unfoldable pub parsed : App → List Text → Result (List Row) Failure
-parsed app words = unless_faulty (fault_of app words) (matches_of app words)
-
--- the one value of an argument, and all its values
-abbrev pub value_of : List Row → Text → Text
-value_of rows id = unwrap_or (first_of id rows) []
-
-abbrev pub values_of : List Row → Text → List Text
-values_of rows id = unwrap_or (all_of id rows) []
-
--- ---- the rules of this program
-
-abbrev pub refuse : Bool → Failure → Result (Unit {0}) Failure
-refuse true failure = Err failure
-refuse false failure = Ok tt
-
--- a path has printable ASCII characters alone, and is not empty; a name has no slash either
-abbrev pub is_path : Text → Bool
-is_path word = nat_lt 0 (length word) && is_plain word
-
-abbrev pub has_slash : Text → Bool
-has_slash word = list_any (λ byte. byte == 0x2f) word
-
-abbrev pub is_name : Text → Bool
-is_name word = is_path word && not (has_slash word)
-
--- longer than a path or a name may be
-abbrev pub is_long : Text → Bool
-is_long word = nat_lt 255 (length word)
-
-abbrev pub too_long : Failure
-too_long = Limit (number_of PathLength)
+-- ---- what words of each command ask for
 
 -- the form of a call, by what stands before the colon
 abbrev pub form_of : Text → Result Form Failure
@@ -179,8 +126,9 @@ abbrev pub command_by : Text → List Text → Result Command Failure
 command_by command words =
     if bytes_eq command (codes "show") then show_words words
     else (if bytes_eq command (codes "load") then load_words words
-    else (if bytes_eq command (codes "link") || bytes_eq command (codes "demo") then Err NotBuilt
-    else Err Usage))
+    else (if bytes_eq command (codes "link") then (link_words words >>= λ asked. Ok (Link asked))
+    else (if bytes_eq command (codes "demo") then Err NotBuilt
+    else Err Usage)))
 
 -- what the words ask for: the first names the command, and stands for the program's name before the others
 unfoldable pub command_of : List Text → Result Command Failure
@@ -204,16 +152,7 @@ load_meant words = record {
 abbrev pub meaning : Given → Command
 meaning (given.Show image) = Show (string_bytes image)
 meaning (given.Load words) = Load (load_meant words)
-
--- memory ran out, or the failure is the one that is said here
-abbrev pub FailsAs : {Y : Type 0} → Failure → Result Y Failure → Type 0
-FailsAs NoMemory said = Unit {0}
-FailsAs failure said = said ≡ Err failure
-
--- a call gives, seen by view, the value or the failure that is said here; memory may run out instead
-abbrev pub Meant : {X Y : Type 0} → (X → Y) → Result X Failure → Result Y Failure → Type 0
-Meant view (Ok x) said = said ≡ Ok (view x)
-Meant view (Err failure) said = FailsAs failure said
+meaning (given.Link words) = Link (link_meant words)
 
 -- ---- what holds of each command that is accepted
 
@@ -231,3 +170,4 @@ pub record IsLoad (asked : LoadWords) : Type 0 where
 abbrev pub IsAccepted : Command → Type 0
 IsAccepted (Show image) = IsName image
 IsAccepted (Load asked) = IsLoad asked
+IsAccepted (Link asked) = IsLink asked

@@ -8,11 +8,12 @@ ghost use Rattle.cap_image.specs.Writing.{image_of, image_bytes};
 ghost use Rattle.purecap.specs.Faults.{failure_of, refusal_line};
 ghost use Rattle.purecap.specs.Words.{call_meant, load_meant, IsLoad};
 ghost use Rattle.purecap.specs.Run.{counted, streamed, stored, Stream, IsStill, Says, Loads};
-ghost use Rattle.purecap.specs.Calling.{is_passed as is_passed_by, kept_by, Passes, Makes, Calls, Begins, Carries, SavesImage, Writes};
+ghost use Rattle.purecap.specs.Calling.{is_passed as is_passed_by, kept_by, Passes, Makes, Calls, Begins, Carries, Writes};
 
 use crate::faults::Failure;
+use crate::saving::save_output;
 use crate::words::{CallWord, LoadWords};
-use cap_base::{Failed, Files, NoMemory, Sink, save};
+use cap_base::{Failed, Files, NoMemory, Sink};
 use cap_mem::Memory;
 use cap_session::{Form, OpenRefusal, Session};
 use std::alloc::Global;
@@ -219,7 +220,7 @@ fn write_image<F: Files, E: Sink>(
         so_far result }
 {
     match image_bytes_of(alloc, session) {
-        Ok(bytes) => save_image(files, image, &bytes, err, so_far),
+        Ok(bytes) => save_output(files, image, &bytes, err, so_far),
         Err(NoMemory) => {
             let _ = Failure::NoMemory.tell_next(err, so_far, b"");
             Err(Failure::NoMemory)
@@ -238,28 +239,4 @@ fn image_bytes_of(alloc: Global, session: &Session) -> Result<Vec<u8>, NoMemory>
         session.symbols(),
         session.memories(),
     )
-}
-
-// Writes the file of an image. A failure is told.
-fn save_image<F: Files, E: Sink>(
-    files: &mut F,
-    image: &str,
-    bytes: &[u8],
-    err: &mut E,
-    so_far: Told,
-) -> Result<(), Failure>
-    ensures { SavesImage image.now bytes.now
-        (stored (F.told files.old) (F.told files.new) (F.writing files.old) (F.writing files.new)
-        (counted (F.read_faults files.old) (F.read_faults files.new))
-        (counted (F.write_faults files.old) (F.write_faults files.new)))
-        (streamed (E.told err.old) (E.told err.new) (E.faults err.old) (E.faults err.new))
-        so_far result }
-{
-    match save(files, image, bytes) {
-        Ok(()) => Ok(()),
-        Err(Failed) => {
-            let _ = Failure::WriteFault.tell_next(err, so_far, image.as_bytes());
-            Err(Failure::WriteFault)
-        }
-    }
 }

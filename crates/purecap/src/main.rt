@@ -5,22 +5,25 @@
 //! its words and files, and only a counted fault of the outside or want of memory stands in the place of it.
 //!
 //! - `given` takes the words from the system, and `words` says what they ask for; then each command has a function of
-//!   its own: `show` in `showing`, `load` in `loading`. What is hard about `load` is that the refusals of calls may be
-//!   passed over: each has its line at once, and all calls speak of the same files, since no call changes the store.
+//!   its own: `show` in `showing`, `load` in `loading`, `link` in `linking`. What is hard about `load` is that the
+//!   refusals of calls may be passed over: each has its line at once, and all calls speak of the same files, since no
+//!   call changes the store.
 //! - `faults` has the status and the line of each failure. A line is written without memory.
 //! - `disk` has the real files and streams, the one part that is trusted: they tell no contents, so over them only the
 //!   causes by counts are proved.
 //!
-//! It knows no format and links nothing: images stand in `cap_image`.
+//! It knows no format: images stand in `cap_image`, sessions in `cap_session`, and the linker in `cap_link`.
 #![tactic(auto)]
 
 mod disk;
 mod faults;
 mod given;
+mod linking;
 mod loading;
 #[cfg(test)]
 mod objects;
 mod running;
+mod saving;
 mod showing;
 #[cfg(test)]
 mod tests;

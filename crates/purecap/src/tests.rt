@@ -530,3 +530,68 @@ fn a_refused_call_ends_the_run_unless_it_is_tried(rt: HostRuntime) -> Result<(),
     report(&rt, alloc, &mut files, GOOD_ALONE)?;
     Ok(())
 }
+
+// The status and the error output of a `link` that is refused.
+fn link_refused(
+    rt: &impl Abort,
+    alloc: Global,
+    words: &[&str],
+    files: &mut MemFiles,
+    want: (u8, &str),
+) -> Result<(), NoMemory> {
+    let kept = load(rt, alloc, words, files, want)?;
+    assert!(rt; kept.is_empty());
+    assert!(rt; files.bytes("a").is_none());
+    Ok(())
+}
+
+// Files of which none can be linked: `a.o` is empty, and `b.so` is a shared object by its type alone.
+fn bad_files(alloc: Global) -> Result<MemFiles, NoMemory> {
+    let mut shared = Vec::new(alloc);
+    shared.resize(16, 0)?;
+    shared.push(3)?;
+    shared.resize(64, 0)?;
+    let mut files = MemFiles::new(alloc);
+    files.put("a.o", b"")?;
+    files.put("b.so", &shared)?;
+    Ok(files)
+}
+
+#[test]
+fn files_are_not_linked(rt: HostRuntime) -> Result<(), Fail> {
+    let alloc = rt.alloc();
+    let mut files = bad_files(alloc)?;
+    let header = (4, "purecap: a.o: malformed file header at 0x0\n");
+    let words = ["link", "-o", "a", "a.o", "b.so"];
+    link_refused(&rt, alloc, &words, &mut files, header)?;
+    let magic = (4, "purecap: b.so: malformed magic at 0x0\n");
+    let words = ["link", "-o", "a", "--shared", "a", "b.so", "a.o"];
+    link_refused(&rt, alloc, &words, &mut files, magic)?;
+    let missing = (3, "purecap: c.o: no such file\n");
+    let words = ["link", "-o", "a", "a.o", "c.o", "d.o"];
+    link_refused(&rt, alloc, &words, &mut files, missing)?;
+    Ok(())
+}
+
+#[test]
+fn an_unread_file_is_not_linked(rt: HostRuntime) -> Result<(), Fail> {
+    let alloc = rt.alloc();
+    let mut files = bad_files(alloc)?;
+    files.fail(5)?;
+    let fault = (10, "purecap: b.so: read fault\n");
+    let words = ["link", "-o", "a", "a.o", "b.so"];
+    link_refused(&rt, alloc, &words, &mut files, fault)?;
+    Ok(())
+}
+
+#[test]
+fn a_larger_file_is_not_linked(rt: HostRuntime) -> Result<(), Fail> {
+    let alloc = rt.alloc();
+    let mut bytes = Vec::new(alloc);
+    bytes.resize((1 << 26) + 1, 0)?;
+    let mut files = MemFiles::new(alloc);
+    files.put("a.o", &bytes)?;
+    let limit = (9, "purecap: limit file size\n");
+    link_refused(&rt, alloc, &["link", "-o", "a", "a.o"], &mut files, limit)?;
+    Ok(())
+}

@@ -6,12 +6,15 @@ ghost use Rattle.cap_base.specs.Steps.{gather};
 ghost use Rattle.cap_base.specs.Check.{number_of};
 ghost use Rattle.clap.specs.Words.{all_of, app_of, first_of, found_of, is_simple_and_free, rows_of, rule_of as rule_of_arg};
 ghost use Rattle.purecap.specs.declared.faults.Failure.TheVariants.{NoMemory};
-ghost use Rattle.purecap.specs.Words.{IsAccepted, Meant, call_meant, call_of as call_in, command_of as command_in, form_of as form_in, has_slash as has_slash_in, is_long as is_long_text, is_name as is_name_text, is_path as is_path_text, load_app, load_meant, load_of as load_in, load_words as load_words_in, operand as operand_in, last_operands as last_operands_in, required_option as required_option_in, option_or as option_or_in, flag as flag_in, meaning, parsed, refuse as refuse_of, rule_of as rule_in, show_app, show_of as show_in, show_words as show_words_in, value_of as value_in, values_of as values_in};
+ghost use Rattle.purecap.specs.WordRules.{Meant, has_slash as has_slash_in, is_long as is_long_text, is_name as is_name_text, is_path as is_path_text, operand as operand_in, last_operands as last_operands_in, required_option as required_option_in, option_or as option_or_in, flag as flag_in, parsed, refuse as refuse_of, value_of as value_in, values_of as values_in};
+ghost use Rattle.purecap.specs.Words.{IsAccepted, call_meant, call_of as call_in, command_of as command_in, form_of as form_in, load_app, load_meant, load_of as load_in, load_words as load_words_in, meaning, rule_of as rule_in, show_app, show_of as show_in, show_words as show_words_in};
 
+pub(crate) mod link;
 #[cfg(test)]
 mod tests;
 
 use crate::faults::Failure;
+use crate::words::link::{LinkWords, link_words};
 use cap_base::{Check, Words, is_plain};
 use cap_scope::Rule;
 use cap_session::Form;
@@ -30,6 +33,8 @@ pub enum Command {
     Show { image: String },
     /// The image of a program that is loaded.
     Load(LoadWords),
+    /// The file that is linked from others.
+    Link(LinkWords),
 }
 
 /// What `load` is asked for. Paths have 1 to 255 printable ASCII characters.
@@ -57,7 +62,7 @@ pub struct CallWord {
 /// What the words ask for.
 ///
 /// `Usage` are words that the command does not take, a call for help too, and words of another form; `Limit` a path or
-/// a name of more than 255 bytes, or more than 64 calls; `NotBuilt` a command that is still to come.
+/// a name of more than 255 bytes, more than 64 calls, or more than 256 files to link; `NotBuilt` a command that is still to come.
 pub fn command_of(alloc: Global, words: &Words) -> Result<Command, Failure>
     ensures meaning { Meant meaning result (command_in words.now) }
     ensures accepted { IfOk result (λ command. IsAccepted (meaning command)) }
@@ -80,7 +85,10 @@ fn named_command(alloc: Global, words: &Words) -> Result<Command, Failure>
     if command == "load" {
         return load_words(alloc, words);
     }
-    if command == "link" || command == "demo" {
+    if command == "link" {
+        return Ok(Command::Link(link_words(alloc, words)?));
+    }
+    if command == "demo" {
         return Err(Failure::NotBuilt);
     }
     Err(Failure::Usage)

@@ -1,5 +1,6 @@
 //! Words of the command line, and what they ask for.
 
+use super::link::LinkWords;
 use super::{Command, LoadWords, command_of};
 use crate::faults::Failure;
 use cap_base::{NoMemory, Words, check_text};
@@ -10,7 +11,7 @@ use std::process::Abort;
 use std::test::Fail;
 
 // Words with a bar between two of them, and what they ask for.
-const ROWS: [(&str, &str); 64] = [
+const ROWS: [(&str, &str); 78] = [
     ("show|i", "show i"),
     ("show", "usage"),
     ("show|i|i", "usage"),
@@ -74,8 +75,25 @@ const ROWS: [(&str, &str); 64] = [
     ("load|-o|--|app", "usage"),
     ("load|--help", "usage"),
     ("load|-o|i|app|-h", "usage"),
-    ("link", "not built"),
-    ("link|-o|a", "not built"),
+    ("link", "usage"),
+    ("link|-o|a", "usage"),
+    ("link|a.o", "usage"),
+    ("link|-o|a|a.o", "link a program a.o"),
+    ("link|-oa|--|-a.o", "link a program -a.o"),
+    (
+        "link|a.o|-o|a|b.o|lib/c.so",
+        "link a program a.o b.o lib/c.so",
+    ),
+    ("link|-o|a|--shared|a.so|a.o", "link a shared a.so a.o"),
+    ("link|-o|a|a.o|--shared=a.so", "link a shared a.so a.o"),
+    ("link|-o|a|a.o|--shared", "usage"),
+    ("link|-o|a|a.o|--shared=", "usage"),
+    ("link|-o|a|--shared|lib/a.so|a.o", "usage"),
+    ("link|-o|a|--shared|b|--shared|c|a.o", "usage"),
+    ("link|-o||a.o", "usage"),
+    ("link|-o|a|a.o|", "usage"),
+    ("link|-o|a|a\u{7f}", "usage"),
+    ("link|-o|a|-L|b|a.o", "usage"),
     ("demo|1", "not built"),
     ("-", "usage"),
     ("--help", "usage"),
@@ -104,6 +122,7 @@ fn said_command(alloc: Global, command: &Command) -> Result<String, NoMemory> {
     match command {
         Command::Show { image } => joined(alloc, "show ", image.as_str()),
         Command::Load(words) => said_load(alloc, words),
+        Command::Link(words) => said_link(alloc, words),
     }
 }
 
@@ -113,6 +132,18 @@ fn said_load(alloc: Global, words: &LoadWords) -> Result<String, NoMemory> {
     push_both(&mut text, rule_text(words.rule), words.main.as_str())?;
     for call in &words.calls {
         push_both(&mut text, form_text(call.form), call.name.as_str())?;
+    }
+    Ok(text)
+}
+
+fn said_link(alloc: Global, words: &LinkWords) -> Result<String, NoMemory> {
+    let mut text = joined(alloc, "link ", words.output.as_str())?;
+    match &words.soname {
+        Some(name) => push_both(&mut text, " shared ", name.as_str())?,
+        None => push_both(&mut text, " program", "")?,
+    }
+    for input in &words.inputs {
+        push_both(&mut text, " ", input.as_str())?;
     }
     Ok(text)
 }
@@ -240,6 +271,38 @@ fn longer_words_are_refused(rt: HostRuntime) -> Result<(), Fail> {
         let asked = Asked { paths, name, count };
         check_load(&rt, alloc, asked, want)?;
     }
+    Ok(())
+}
+
+// `link` of so many files of one path.
+fn check_link(
+    rt: &impl Abort,
+    alloc: Global,
+    file: &str,
+    count: usize,
+    want: &str,
+) -> Result<(), NoMemory> {
+    let mut words = Words::new(alloc);
+    for word in ["link", "-o", "a"] {
+        words.push(word)?;
+    }
+    for _ in 0..count {
+        words.push(file)?;
+    }
+    check(rt, alloc, &words, want)
+}
+
+#[test]
+fn more_files_are_refused(rt: HostRuntime) -> Result<(), Fail> {
+    let alloc = rt.alloc();
+    let mut longer = String::new(alloc);
+    for _ in 0..256u32 {
+        longer.push('a')?;
+    }
+    let many = "limit calls or inputs";
+    check_link(&rt, alloc, "a.o", 257, many)?;
+    check_link(&rt, alloc, "", 257, "usage")?;
+    check_link(&rt, alloc, longer.as_str(), 257, "limit path or name")?;
     Ok(())
 }
 

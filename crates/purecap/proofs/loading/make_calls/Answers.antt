@@ -1,7 +1,8 @@
 use Rattle.std.proofs.Common.{refl, ◌∙◌}
 use Rattle.std.proofs.lemmas.List.{drop_all}
 use Rattle.std.proofs.lemmas.Result.{err_from_is_err_and}
-use Rattle.purecap.proofs.Steps.{called_none, called_more, called_ended, next_call}
+use Rattle.purecap.specs.Words.{call_meant}
+use Rattle.purecap.proofs.Steps.{called_none, called_more, called_ended, next_item}
 use Rattle.purecap.proofs.loading.make_calls.Goals as goal
 
 pub loop-call-init : goal.loop-call-init
@@ -11,7 +12,7 @@ pub returns-in_err-so_far-clause-calls : goal.returns-in_err-so_far-clause-calls
 returns-in_err-so_far-clause-calls g c =
     let p = err_from_is_err_and c.from_residual.result c.from_residual.ensures.1 in
     let at = c.loop-call.invariant in
-    let called = rw (next_call c.args.calls.now c.loop-call.call-index c.call-item.result c.loop-call-test.true c.call-item.is) at at.0 in
+    let called = rw (next_item call_meant c.args.calls.now c.loop-call.call-index c.call-item.result c.loop-call-test.true c.call-item.is) at at.0 in
     let ended = rw at.2 at (c.in_err-so_far.ensures {u = tt}).made in
     rw (p.1, p.2) (called_ended _ _ _ _ _ _ _ _ _ _ _ _ _ _ _ _ _ called ended)
 
@@ -28,7 +29,7 @@ pub loop-call-preserved : goal.loop-call-preserved
 loop-call-preserved g c =
     let at = c.loop-call.invariant in
     let made = c.in_ok-so_far.ensures {u = tt} in
-    let called = rw (next_call c.args.calls.now c.loop-call.call-index c.call-item.result c.loop-call-test.true c.call-item.is) at at.0 in (
+    let called = rw (next_item call_meant c.args.calls.now c.loop-call.call-index c.call-item.result c.loop-call-test.true c.call-item.is) at at.0 in (
       called_more _ _ _ _ _ _ _ _ _ _ _ _ _ _ _ _ _ _ called (rw at.2 at made.made),
       made.session,
       made.same_told ∙ at.2,

@@ -7,6 +7,10 @@ use Rattle.purecap.proofs.running.act.Goals as goal
 pub returns-in-Ok-Show : goal.returns-in-Ok-Show
 returns-in-Ok-Show g c = rw ((c.in-Ok-Show.ensures {u = tt}).meaning, c.in-Ok-Show.field-0-is, c.requires) (rw c.as_str.ensures.value at c.show_told.ensures)
 
+pub returns-in-Ok-Link : goal.returns-in-Ok-Link
+returns-in-Ok-Link g c =
+    rw ((c.in-Ok-Link.ensures {u = tt}).meaning, c.in-Ok-Link.field-0-is, c.requires) (c.link.ensures _ (record { bytes = refl; count = refl }))
+
 pub returns-in-Err : goal.returns-in-Err
 returns-in-Err g c =
     let failed = c.in-Err.ensures {u = tt} in
