@@ -14,7 +14,9 @@ import sys
 import tempfile
 from pathlib import Path
 
-sys.path.insert(0, str(Path(__file__).resolve().parent))
+HERE = Path(__file__).resolve().parent
+sys.path[:0] = [str(HERE), str(HERE.parent / "examples")]
+from pure_capability import mark  # noqa: E402
 from show import run  # noqa: E402
 
 SIZES = [(64, 1 << 12), (64, 1 << 14), (64, 1 << 16), (64, 1 << 18), (256, 1 << 16), (256, 1 << 18)]
@@ -37,11 +39,7 @@ def make(folder: Path, objects: int, relocations: int) -> list[str]:
         written.write_text(source(objects, number, relocations // objects))
         subprocess.run(["clang", "--target=riscv64-linux-gnu", "-march=rv64g", "-mno-relax", "-c", written, "-o", name],
                        check=True)
-        with name.open("r+b") as file:
-            file.seek(48)
-            flags = int.from_bytes(file.read(4), "little") | 0x30000
-            file.seek(48)
-            file.write(flags.to_bytes(4, "little"))
+        mark(name)
         made.append(name.name)
     return made
 

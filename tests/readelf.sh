@@ -7,6 +7,7 @@
 # headers. Where the tools are missing, it says so and passes.
 set -eu
 program=$(realpath "$1")
+mark=$(realpath "$(dirname "$0")/../examples/pure_capability.py")
 if ! clang --print-targets 2> /dev/null | grep -q riscv64; then
     echo "skipped: no clang for riscv64"
     exit 0
@@ -15,31 +16,23 @@ folder=$(mktemp -d)
 trap 'rm -rf "$folder"' EXIT
 cd "$folder"
 
-cat > first.c <<'CODE_OF_FIRST'
+cat > first.c <<'CODE'
 int counter = 3;
 int table[1000];
 int tentative;
 const char *const greetings[] = {"hello", "and again"};
 long outer(long x) { return x * 3; }
-CODE_OF_FIRST
-cat > second.c <<'CODE_OF_SECOND'
+CODE
+cat > second.c <<'CODE'
 extern int counter;
 extern long outer(long);
 long (*entry)(long) = outer;
 int *place = &counter;
 long _start(long x) { return x * 5; }
-CODE_OF_SECOND
+CODE
 for name in first second; do
     clang --target=riscv64-linux-gnu -march=rv64g -mno-relax -fcommon -O1 -c "$name.c" -o "$name.o"
-    python3 - "$name.o" <<'CODE_OF_FLAGS'
-import sys
-
-with open(sys.argv[1], "r+b") as file:
-    file.seek(48)
-    flags = int.from_bytes(file.read(4), "little") | 0x30000
-    file.seek(48)
-    file.write(flags.to_bytes(4, "little"))
-CODE_OF_FLAGS
+    python3 "$mark" "$name.o"
 done
 "$program" link -o library.so --shared library.so first.o
 "$program" link -o both.so --shared both.so first.o second.o

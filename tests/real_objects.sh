@@ -6,6 +6,7 @@
 # missing, it says so and passes.
 set -eu
 cd "$(dirname "$0")/.."
+mark=$PWD/examples/pure_capability.py
 if ! clang --print-targets 2> /dev/null | grep -q riscv64; then
     echo "skipped: no clang for riscv64"
     exit 0
@@ -39,15 +40,7 @@ link() {
     local linker=$1 name=$2
     shift 2
     "$linker" "$@" -o "$name" 2> link.log || { echo "skipped: $linker $*"; return; }
-    python3 - "$name" <<'CODE'
-import sys
-
-with open(sys.argv[1], "r+b") as file:
-    file.seek(48)
-    flags = int.from_bytes(file.read(4), "little") | 0x30000
-    file.seek(48)
-    file.write(flags.to_bytes(4, "little"))
-CODE
+    python3 "$mark" "$name"
     made+=("$PWD/$name")
 }
 for linker in ld.lld riscv64-linux-gnu-ld; do
