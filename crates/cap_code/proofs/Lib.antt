@@ -5,4 +5,3 @@ pub mod Together
 pub mod Firsts
 pub mod Stubs
 pub mod Lengths
-mod CodeRows

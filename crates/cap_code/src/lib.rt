@@ -25,6 +25,3 @@ mod scene;
 mod writing;
 
 pub use patching::patch;
-
-#[cfg(test)]
-mod tests;

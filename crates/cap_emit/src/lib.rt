@@ -26,6 +26,3 @@ mod tables;
 
 pub use emitting::emit;
 pub use laws::emit_laws;
-
-#[cfg(test)]
-mod tests;

@@ -14,7 +14,6 @@ pub mod PieceClasses
 pub mod PieceOrders
 pub mod PieceSearch
 pub mod PieceAnswers
-pub mod PieceRows
 pub mod PlaceBounds
 pub mod PlaceWalk
 pub mod PlaceClasses
@@ -27,4 +26,3 @@ pub mod PointCommons
 pub mod PlaceHeld
 pub mod PointFound
 pub mod PointNumbers
-pub mod LayRows

@@ -48,8 +48,3 @@ pub use layout::{Layout, lay};
 pub use parts::{Parts, Sizes};
 pub use piece::Piece;
 pub use piece_list::Pieces;
-
-#[cfg(test)]
-mod lay_tests;
-#[cfg(test)]
-mod tests;

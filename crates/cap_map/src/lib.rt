@@ -15,6 +15,3 @@
 mod placing;
 
 pub use placing::{Placed, place};
-
-#[cfg(test)]
-mod tests;

@@ -35,6 +35,3 @@ mod target;
 pub use binding::relocate;
 pub use laws::{binding_laws, storing_laws};
 pub use refusal::RelocRefusal;
-
-#[cfg(test)]
-mod tests;

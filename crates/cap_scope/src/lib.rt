@@ -24,6 +24,3 @@ pub use choice::{Choice, Found, Hit, Rule};
 pub use choosing::choose;
 pub use deps::{Deps, breadth};
 pub use object::Object;
-
-#[cfg(test)]
-mod tests;

@@ -29,6 +29,3 @@ pub use form::Form;
 pub use laws::state_laws;
 pub use refusal::{Mode, OpenCause, OpenRefusal, Ready};
 pub use session::Session;
-
-#[cfg(test)]
-mod tests;

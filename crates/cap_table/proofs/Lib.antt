@@ -16,4 +16,3 @@ pub mod PlanNames
 pub mod PlanArrays
 pub mod PlanCounts
 pub mod PlanLaw
-mod PlanRows

@@ -34,8 +34,3 @@ pub use records::{DynEntry, DynSymbol};
 pub use sources::Sources;
 pub use target::{Step, Target};
 pub use wants::Want;
-
-#[cfg(test)]
-mod filling_tests;
-#[cfg(test)]
-mod plan_tests;

@@ -1,8 +1,8 @@
 //! Choices among objects that are made of bytes here, and a tree.
 
-use crate::*;
 use cap_base::Refusal;
 use cap_elf::{DynFile, read_dyn};
+use cap_scope::{Choice, Deps, Found, Hit, Object, Rule, breadth, choose};
 use std::alloc::Global;
 use std::process::Abort;
 use std::test::Fail;

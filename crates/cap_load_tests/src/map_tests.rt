@@ -1,8 +1,8 @@
 //! A small object, placed twice, and then where there is no room for it.
 
-use super::*;
 use cap_base::Refusal;
 use cap_elf::read_dyn;
+use cap_map::{Placed, place};
 use cap_mem::Memory;
 use cap_own::Space;
 use std::alloc::{AllocError, Global};

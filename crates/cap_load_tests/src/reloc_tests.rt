@@ -3,11 +3,11 @@
 ghost use Rattle.std.specs.Prelude.{◌≡◌, ◌<◌, ◌≤◌, ◌+◌, ◌%◌, [], ◌∷◌, length, map};
 ghost use Rattle.cap_reloc.specs.Binding.{AreMappings, IsUnrelocated};
 
-use crate::*;
 use cap_conc::Word;
 use cap_elf::{DynFile, read_dyn};
 use cap_mem::Memory;
 use cap_own::{Root, Space};
+use cap_reloc::{RelocRefusal, relocate};
 use cap_scope::{Hit, Object, Rule};
 use std::alloc::Global;
 use std::process::Abort;

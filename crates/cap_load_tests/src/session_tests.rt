@@ -1,8 +1,8 @@
 //! Programs and libraries that are made of bytes here: in which order they are loaded, and what an open leaves.
 
-use crate::*;
 use cap_base::MemFiles;
 use cap_scope::Rule;
+use cap_session::{Mode, OpenCause, OpenRefusal, Session};
 use std::alloc::{AllocError, Global};
 use std::process::Abort;
 use std::test::Fail;

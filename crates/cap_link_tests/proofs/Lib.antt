@@ -1,0 +1,4 @@
+pub mod CodeRows
+pub mod LayRows
+pub mod PieceRows
+pub mod PlanRows
