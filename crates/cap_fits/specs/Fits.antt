@@ -2,6 +2,7 @@
 use Rattle.std.specs.Prelude.{◌≡◌, ℕ, ◌+◌, ◌-◌, ◌*◌, ◌%◌, ◌^◌, ◌≤◌, ◌⊎◌, Bool, true, false, not, ◌&&◌, nat_lt, List, ◌++◌, map, filter, All, AllPairs, IfSome}
 use Rattle.cap_base.specs.Lists.{share_byte}
 use Rattle.cap_conc.specs.Computed.{is_exact}
+use Rattle.cap_elf.specs.declared.records.CapReloc.{CapReloc}
 use Rattle.cap_elf.specs.declared.records.Symbol.{Symbol}
 use Rattle.cap_elf.specs.DynView.{DynRecords}
 use Rattle.cap_elf.specs.Exported.{is_defined}
@@ -11,12 +12,20 @@ use Rattle.cap_fits.specs.Places.{is_absolute, is_function, code_range}
 abbrev pub is_data : Symbol → Bool
 is_data s = is_defined s.place && not (is_absolute s.place) && not (is_function s)
 
--- the intervals of data, each a place and a length: those of the symbols of data, and those of the entries that are no
--- functions
+-- an entry of data: its capability is no function
+abbrev pub is_data_entry : CapReloc → Bool
+is_data_entry e = nat_lt e.permissions (2 ^ 63)
+
+abbrev pub interval_of_symbol : Symbol → ℕ × ℕ
+interval_of_symbol s = (s.value, s.size)
+
+abbrev pub interval_of_entry : CapReloc → ℕ × ℕ
+interval_of_entry e = (e.object, e.size)
+
+-- the intervals of data, each a place and a length: those of the symbols of data, and those of the entries of data
 abbrev pub data_intervals : DynRecords → List (ℕ × ℕ)
 data_intervals object =
-    map (λ s. (s.value, s.size)) (filter is_data object.symbols)
-    ++ map (λ e. (e.object, e.size)) (filter (λ e. nat_lt e.permissions (2 ^ 63)) object.cap_relocs)
+    map interval_of_symbol (filter is_data object.symbols) ++ map interval_of_entry (filter is_data_entry object.cap_relocs)
 
 -- wherever the object is placed, its intervals of data and its range of code have exact bounds
 pub record Fits (object : DynRecords) : Type 0 where
