@@ -1,27 +1,53 @@
--- What the definitions of a state say of exact bounds.
-use Rattle.std.specs.Prelude.{◌≡◌, ◌⊎◌, ℕ, ◌<◌, ◌≤◌, Bool, true, List, [], ◌∷◌, ◌++◌, length, map, zip, All, Contains, Option, Some, None, Result, Ok, Err, slice_index}
-use Rattle.cap_elf.specs.DynView.{DynRecords}
+-- What holds of every state, and what the definitions of a state say of exact bounds.
+use Rattle.std.specs.Prelude.{◌≡◌, ◌⊎◌, ℕ, ◌+◌, ◌%◌, ◌<◌, ◌≤◌, true, List, [], ◌∷◌, ◌++◌, length, map, zip, All, Contains, Option, Some, None, Result, Ok, Err, slice_index}
+use Rattle.std.specs.List.{AllZip}
+use Rattle.cap_base.specs.Outside.{Store}
 use Rattle.cap_elf.specs.IsRead.{IsRead}
 use Rattle.cap_fits.specs.Fits.{Fits, Placed, loaded_intervals, DataLieApart}
 use Rattle.cap_scope.specs.declared.choice.Hit.{Hit}
 use Rattle.cap_scope.specs.declared.choice.Rule.{Rule}
 use Rattle.cap_scope.specs.Chosen.{object_at}
 use Rattle.cap_reloc.specs.declared.refusal.RelocRefusal.TheVariants as relocs
+use Rattle.cap_reloc.specs.Planned.{SlotsAreApart, interval_of}
 use Rattle.cap_reloc.specs.Wanted.{Content, Number, Untagged, Tagged, Pair, wanted_pairs}
 use Rattle.cap_session.specs.declared.refusal.Mode.{Mode}
 use Rattle.cap_session.specs.declared.refusal.OpenCause.{OpenCause}
 use Rattle.cap_session.specs.declared.refusal.OpenCause.TheVariants.{NoFile, Malformed, Unsupported, Unresolved, Inexact, Full, Limit, ReadFault, NoMemory}
 use Rattle.cap_session.specs.declared.refusal.OpenRefusal.{OpenRefusal}
 use Rattle.cap_session.specs.Binding.{objects_of, setting_of, reloc_refusal}
-use Rattle.cap_session.specs.Laws.{LieBehind}
-use Rattle.cap_session.specs.Loading.{Fetch, Loaded, Source, records_of, with_needed, with_named}
+use Rattle.cap_session.specs.Calls.{Call, outcome_of}
+use Rattle.cap_session.specs.Loading.{Fetch, Loaded, Source, closed, fetch_from, first_unanswered, records_of, with_needed, with_named}
 use Rattle.cap_session.specs.Scope.{Opening}
 use Rattle.cap_session.specs.Session.{SessionValue, all_records}
 use Rattle.cap_session.specs.State.{State, started, opened, opening_of}
 
--- the files that paths give have the records of files that were read
-abbrev pub GivesRead : Fetch → Type 0
-GivesRead fetch = (path : List ℕ) (source : Source) → fetch path ≡ Ok source → IsRead source.records
+-- the objects lie one behind another up to the end of all addresses, each at a multiple of its alignment
+abbrev pub LieBehind : ℕ → List Loaded → Type 0
+LieBehind from [] = from ≤ 0x44000000
+LieBehind from (o ∷ objects) = (from ≤ o.base) × (o.base % (records_of o).align ≡ 0) × LieBehind (o.base + (records_of o).span) objects
+
+-- the cause is that of bounds that are not exact
+abbrev pub IsInexactCause : OpenCause → Type 0
+IsInexactCause NoFile = ⊥
+IsInexactCause (Malformed check at) = ⊥
+IsInexactCause (Unsupported check at) = ⊥
+IsInexactCause (Unresolved name) = ⊥
+IsInexactCause (Inexact name base len) = Unit {0}
+IsInexactCause (Full asked left) = ⊥
+IsInexactCause (Limit check) = ⊥
+IsInexactCause ReadFault = ⊥
+IsInexactCause NoMemory = ⊥
+
+abbrev pub IsInexact : OpenRefusal → Type 0
+IsInexact refusal = IsInexactCause refusal.cause
+
+-- the files that paths give have the records of files that were read, and bounds are no cause why a path gives none
+pub record GivesRead (fetch : Fetch) : Type 0 where
+  pub read : (path : List ℕ) (source : Source) → fetch path ≡ Ok source → IsRead source.records
+  pub refused : (path : List ℕ) (cause : OpenCause) → fetch path ≡ Err cause → IsInexactCause cause → ⊥
+
+abbrev pub StoresGiveRead : Type 0
+StoresGiveRead = (store : Store) → GivesRead (fetch_from store)
 
 -- the objects, and where each begins
 abbrev pub placed_objects : List Loaded → List Placed
@@ -38,7 +64,17 @@ IsBoundOf objects (Tagged c note) =
     (c.sealed ≡ true)
     ⊎ ((c.owner < length objects) × Contains (loaded_intervals (object_at (map records_of objects) c.owner) (slice_index (map (λ o. o.base) objects) c.owner)) (c.base, c.len))
 
--- what holds of every state that a start and calls lead to
+-- the slot lies in the object
+abbrev pub LiesIn : Loaded → Pair → Type 0
+LiesIn o p =
+    let slot = interval_of p in (o.base ≤ slot.0) × (slot.0 + slot.1 ≤ o.base + (records_of o).span)
+
+-- the slots of an object share no byte, and lie in it
+pub record AreSlotsOf (o : Loaded) (pairs : List Pair) : Type 0 where
+  pub apart : SlotsAreApart pairs
+  pub within : All (LiesIn o) pairs
+
+-- what holds of every state that a start and calls lead to. So no two pairs of a state share a byte
 pub record IsReached (state : State) : Type 0 where
   pub some : 0 < length state.objects
   pub few : length state.objects ≤ 256
@@ -46,29 +82,22 @@ pub record IsReached (state : State) : Type 0 where
   pub behind : LieBehind 0x40000000 state.objects
   pub start_few : state.start_count ≤ length state.objects
   pub trees : All (λ o. All (λ i. i < length state.objects) o.tree) state.openings
+  pub slots : AllZip AreSlotsOf state.objects state.pairs
   pub bounds : All (λ pairs. All (λ (p : Pair). IsBoundOf state.objects p.content) pairs) state.pairs
 
+-- each state that a start and calls lead to
 pub record StatesAreReached : Type 0 where
   pub start : (fetch : Fetch) (dir main : List ℕ) (rule : Rule) (state : State) → GivesRead fetch → started fetch dir main rule ≡ Ok state → IsReached state
   pub call : (fetch : Fetch) (dir : List ℕ) (rule : Rule) (state : State) (name : List ℕ) (mode : Mode) (next : State) → GivesRead fetch → IsReached state → opened fetch dir rule state name mode ≡ Ok next → IsReached next
+  pub run : (store : Store) (dir main : List ℕ) (rule : Rule) (calls : List Call) (state : State) → (outcome_of (fetch_from store) dir main rule calls).«end» ≡ Ok state → IsReached state
+
+-- where loading what is needed ends, each needed name is answered
+abbrev pub NamesAreAnswered : Type 0
+NamesAreAnswered = (fetch : Fetch) (dir : List ℕ) (objects last : List Loaded) → closed fetch dir objects ≡ Ok last → first_unanswered last ≡ None
 
 -- the data of the objects of a state lie apart
 abbrev pub StatesLieApart : Type 0
 StatesLieApart = (state : State) → IsReached state → DataLieApart (placed_objects state.objects)
-
-abbrev pub IsInexactCause : OpenCause → Type 0
-IsInexactCause NoFile = ⊥
-IsInexactCause (Malformed check at) = ⊥
-IsInexactCause (Unsupported check at) = ⊥
-IsInexactCause (Unresolved name) = ⊥
-IsInexactCause (Inexact name base len) = Unit {0}
-IsInexactCause (Full asked left) = ⊥
-IsInexactCause (Limit check) = ⊥
-IsInexactCause ReadFault = ⊥
-IsInexactCause NoMemory = ⊥
-
-abbrev pub IsInexact : OpenRefusal → Type 0
-IsInexact refusal = IsInexactCause refusal.cause
 
 -- the object in which the refused definition stands; of an entry, that which is relocated
 abbrev pub blamed : ℕ → Option Hit → ℕ
