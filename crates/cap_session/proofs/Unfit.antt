@@ -1,10 +1,11 @@
 -- A start and a call are refused for bounds only by an object that doesn't fit.
 use Rattle.std.proofs.Common.{◌≡◌, ℕ, suc, zero, ◌+◌, ◌-◌, ◌<◌, ◌≤◌, ⊎_elim, List, [], ◌∷◌, ◌++◌, length, map, drop, refl, ap, sym, ◌∙◌, subst, arith}
-use Rattle.std.specs.Prelude.{All, Option, Some, None, Result, Ok, Err, is_some}
+use Rattle.std.specs.Prelude.{All, IfSome, Option, Some, None, Result, Ok, Err, is_some}
 use Rattle.std.specs.List.{range_with_len}
 use Rattle.std.proofs.lemmas.Bool.{cases_lt}
 use Rattle.std.proofs.lemmas.List.{get_or_past, length-append, length-map, take-append-drop}
 use Rattle.std.proofs.lemmas.List.Elements.{All-nil}
+use Rattle.cap_base.specs.Outside.{Store}
 use Rattle.cap_base.specs.Steps.{◌>>=◌, gather}
 use Rattle.cap_elf.specs.DynView.{DynRecords}
 use Rattle.cap_fits.specs.Fits.{Fits}
@@ -16,11 +17,14 @@ use Rattle.cap_reloc.specs.declared.refusal.RelocRefusal.TheVariants as relocs
 use Rattle.cap_reloc.specs.Binding.{IsUnfitCause}
 use Rattle.cap_reloc.specs.Wanted.{Pair, Setting, wanted_pairs}
 use Rattle.cap_session.specs.declared.refusal.Mode.{Mode}
+use Rattle.cap_session.specs.declared.refusal.OpenCause.{OpenCause}
+use Rattle.cap_session.specs.declared.refusal.OpenCause.TheVariants.{NoFile, Malformed, Unsupported, Unresolved, Inexact, Full, Limit, ReadFault, NoMemory}
 use Rattle.cap_session.specs.declared.refusal.OpenRefusal.{OpenRefusal}
 use Rattle.cap_session.specs.Binding.{objects_of, pairs_for, pairs_from, reloc_refusal, setting_of}
 use Rattle.cap_session.specs.Entering.{start_between}
-use Rattle.cap_session.specs.Exact.{GivesRead, IsInexact, IsReached, IsUnfit, IsUnfitAmong, blamed}
-use Rattle.cap_session.specs.Loading.{Fetch, Loaded, answerer, records_of, with_named, with_needed}
+use Rattle.cap_session.specs.Exact.{GivesRead, IsInexact, IsReached, IsUnfit, IsUnfitAmong, IsUnfitCall, IsUnfitStart, InexactIsUnfit, IsInexactCause, StoresGiveRead, blamed}
+use Rattle.cap_session.specs.Loading.{Fetch, Loaded, answerer, fetch_from, records_of, with_named, with_needed}
+use Rattle.cap_session.specs.Refused.{IsRefusedBy, NamesNoFile}
 use Rattle.cap_session.specs.Scope.{Opening}
 use Rattle.cap_session.specs.State.{State, opened, opening_of, started}
 use Rattle.cap_session.proofs.Begins.{with_named-Begins}
@@ -78,8 +82,7 @@ pairs-unfit laws rule dir objects start_count openings from refusal h low e inex
     let by = as-err (reloc_refusal dir (objects_of objects) at.0) (wanted_pairs (setting_of rule (objects_of objects) start_count openings at.0)) refusal at.3 in
     unfit-by laws rule dir objects start_count openings at.0 refusal by.0 (relocated-at objects start_count openings at.0 h (omega (arith, to, many, low))) by.1 by.2 inexact
 
-pub start-unfit : (laws : PairLaws) (fetch : Fetch) (dir main : List ℕ) (rule : Rule) (refusal : OpenRefusal) → GivesRead fetch → started fetch dir main rule ≡ Err refusal → IsInexact refusal
-    → IsUnfitAmong (with_needed fetch dir [] main) (λ objects. IsUnfit rule dir objects (length objects) [] refusal)
+pub start-unfit : (laws : PairLaws) (fetch : Fetch) (dir main : List ℕ) (rule : Rule) (refusal : OpenRefusal) → GivesRead fetch → started fetch dir main rule ≡ Err refusal → IsUnfitStart fetch dir main rule refusal
 start-unfit laws fetch dir main rule refusal given e inexact =
     let made : List Loaded → List (List Pair) → State = λ objects pairs. record { objects = objects; pairs = pairs; openings = []; start_count = length objects; starts = 0 ∷ [] } in
     ⊎_elim (λ (first : with_needed fetch dir [] main ≡ Err refusal). absurd (needed-other fetch dir [] main given refusal first inexact))
@@ -94,8 +97,7 @@ start-unfit laws fetch dir main rule refusal given e inexact =
     (bind-err (pairs_from rule dir (objects_of objects) (length objects) [] 0) (λ pairs. Ok (made objects pairs)) refusal rest.2))
     (bind-err (with_needed fetch dir [] main) (λ objects. pairs_from rule dir (objects_of objects) (length objects) [] 0 >>= λ pairs. Ok (made objects pairs)) refusal e)
 
-pub call-unfit : (laws : PairLaws) (fetch : Fetch) (dir : List ℕ) (rule : Rule) (state : State) (name : List ℕ) (mode : Mode) (refusal : OpenRefusal) → GivesRead fetch → IsReached state → opened fetch dir rule state name mode ≡ Err refusal → IsInexact refusal
-    → IsUnfitAmong (with_named fetch dir state.objects name) (λ objects. IsUnfit rule dir objects state.start_count (state.openings ++ opening_of objects name mode ∷ []) refusal)
+pub call-unfit : (laws : PairLaws) (fetch : Fetch) (dir : List ℕ) (rule : Rule) (state : State) (name : List ℕ) (mode : Mode) (refusal : OpenRefusal) → GivesRead fetch → IsReached state → opened fetch dir rule state name mode ≡ Err refusal → IsUnfitCall fetch dir rule state name mode refusal
 call-unfit laws fetch dir rule state name mode refusal given h e inexact =
     let made : List Loaded → List (List Pair) → State = λ objects pairs. record { objects = objects; pairs = state.pairs ++ pairs; openings = state.openings ++ opening_of objects name mode ∷ []; start_count = state.start_count; starts = state.starts ++ start_between (length state.objects) (length objects) } in
     let found = is_some (answerer state.objects name) in
@@ -115,3 +117,33 @@ call-unfit laws fetch dir rule state name mode refusal given h e inexact =
     (λ (last : (pairs : List (List Pair)) × (pairs_from rule dir (objects_of objects) state.start_count openings from ≡ Ok pairs) × (◌≡◌ {A = Result State OpenRefusal} (Ok (made objects pairs)) (Err refusal))). absurd (let none = last.2 in cc))
     (bind-err (pairs_from rule dir (objects_of objects) state.start_count openings from) (λ pairs. Ok (made objects pairs)) refusal rest.2))
     (bind-err (with_named fetch dir state.objects name) (λ objects. pairs_from rule dir (objects_of objects) state.start_count (state.openings ++ opening_of objects name mode ∷ []) from >>= λ pairs. Ok (made objects pairs)) refusal e)
+
+-- ---- over a store that tells its files
+for-bounds : {T : Type 0} (wanted : Result T OpenRefusal) (refusal : OpenRefusal) (cause : OpenCause) → IsRefusedBy wanted refusal cause → IsInexactCause cause → wanted ≡ Err refusal
+for-bounds wanted refusal NoFile h no = absurd no
+for-bounds wanted refusal (Malformed check at) h no = absurd no
+for-bounds wanted refusal (Unsupported check at) h no = absurd no
+for-bounds wanted refusal (Unresolved name) h no = absurd no
+for-bounds wanted refusal (Inexact name base len) h yes = h
+for-bounds wanted refusal (Full asked left) h no = absurd no
+for-bounds wanted refusal (Limit check) h no = absurd no
+for-bounds wanted refusal ReadFault h no = absurd no
+for-bounds wanted refusal NoMemory h no = absurd no
+
+pub start-by : InexactIsUnfit → StoresGiveRead → (store : Store) (dir main : List ℕ) (rule : Rule) (refusal : OpenRefusal) → IsRefusedBy (started (fetch_from store) dir main rule) refusal refusal.cause → IsUnfitStart (fetch_from store) dir main rule refusal
+start-by unfit read store dir main rule refusal h inexact =
+    unfit.start (fetch_from store) dir main rule refusal (read store) (for-bounds (started (fetch_from store) dir main rule) refusal refusal.cause h inexact) inexact
+
+pub call-by : InexactIsUnfit → StoresGiveRead → (store : Store) (dir : List ℕ) (rule : Rule) (state : State) (name : List ℕ) (mode : Mode) (refusal : OpenRefusal) → IsReached state → IsRefusedBy (opened (fetch_from store) dir rule state name mode) refusal refusal.cause
+    → IsUnfitCall (fetch_from store) dir rule state name mode refusal
+call-by unfit read store dir rule state name mode refusal reached h inexact =
+    unfit.call (fetch_from store) dir rule state name mode refusal (read store) reached (for-bounds (opened (fetch_from store) dir rule state name mode) refusal refusal.cause h inexact) inexact
+
+-- for want of memory nothing is said of bounds
+pub none-starved : (P : OpenRefusal → Store → Type 0) (told : Option Store) (refusal : OpenRefusal) → refusal.cause ≡ NoMemory → IfSome told (λ store. IsInexact refusal → P refusal store)
+none-starved P None refusal e = tt
+none-starved P (Some store) refusal e = λ inexact. absurd (subst IsInexactCause e inexact)
+
+-- a refusal by which the definition is refused names no file for want of memory
+pub refused_starved : {T : Type 0} (wanted : Result T OpenRefusal) (refusal : OpenRefusal) → IsRefusedBy wanted refusal refusal.cause → NamesNoFile refusal
+refused_starved wanted refusal h e = subst (λ (cause : OpenCause). IsRefusedBy wanted refusal cause) e h

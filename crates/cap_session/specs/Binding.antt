@@ -125,7 +125,7 @@ pub record StaysBelow (from : ℕ) (old new : RosterValue) : Type 0 where
   pub rest : new ≡ record old { memories = new.memories }
   pub first : take from new.memories ≡ take from old.memories
 
--- the tagged words of a memory have owners, and notes that are symbols of these
+-- each tagged word was narrowed from the mapping of its owner, and its note is one of the owner's symbols
 pub record HasOwned (r : RosterValue) (memory : TaggedMemory) : Type 0 where
   pub narrowed : AreNarrowed r.roots memory
   pub noted : AreNoted (records_in r) memory

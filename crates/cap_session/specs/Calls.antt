@@ -22,7 +22,7 @@ mode_of Open = Local
 mode_of forms.Global = Global
 mode_of Try = Local
 
--- whether a refusal of a call of this form is passed over
+-- whether a refusal that the files decide, of a call of this form, is passed over
 abbrev pub passes_over : Form → Bool
 passes_over Open = false
 passes_over forms.Global = false

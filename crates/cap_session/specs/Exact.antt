@@ -123,9 +123,17 @@ pub record IsUnfitAmong (objects : Result (List Loaded) OpenRefusal) (unfit : Li
   pub objects_are : objects ≡ Ok loaded
   pub is_unfit : unfit loaded
 
+-- where a start is refused for bounds, it is by an object that doesn't fit
+abbrev pub IsUnfitStart : Fetch → List ℕ → List ℕ → Rule → OpenRefusal → Type 0
+IsUnfitStart fetch dir main rule refusal =
+    IsInexact refusal → IsUnfitAmong (with_needed fetch dir [] main) (λ objects. IsUnfit rule dir objects (length objects) [] refusal)
+
+-- the same of a call
+abbrev pub IsUnfitCall : Fetch → List ℕ → Rule → State → List ℕ → Mode → OpenRefusal → Type 0
+IsUnfitCall fetch dir rule state name mode refusal =
+    IsInexact refusal → IsUnfitAmong (with_named fetch dir state.objects name) (λ objects. IsUnfit rule dir objects state.start_count (state.openings ++ opening_of objects name mode ∷ []) refusal)
+
 -- a start and a call are refused for bounds only by an object that doesn't fit
 pub record InexactIsUnfit : Type 0 where
-  pub start : (fetch : Fetch) (dir main : List ℕ) (rule : Rule) (refusal : OpenRefusal) → GivesRead fetch → started fetch dir main rule ≡ Err refusal → IsInexact refusal
-      → IsUnfitAmong (with_needed fetch dir [] main) (λ objects. IsUnfit rule dir objects (length objects) [] refusal)
-  pub call : (fetch : Fetch) (dir : List ℕ) (rule : Rule) (state : State) (name : List ℕ) (mode : Mode) (refusal : OpenRefusal) → GivesRead fetch → IsReached state → opened fetch dir rule state name mode ≡ Err refusal → IsInexact refusal
-      → IsUnfitAmong (with_named fetch dir state.objects name) (λ objects. IsUnfit rule dir objects state.start_count (state.openings ++ opening_of objects name mode ∷ []) refusal)
+  pub start : (fetch : Fetch) (dir main : List ℕ) (rule : Rule) (refusal : OpenRefusal) → GivesRead fetch → started fetch dir main rule ≡ Err refusal → IsUnfitStart fetch dir main rule refusal
+  pub call : (fetch : Fetch) (dir : List ℕ) (rule : Rule) (state : State) (name : List ℕ) (mode : Mode) (refusal : OpenRefusal) → GivesRead fetch → IsReached state → opened fetch dir rule state name mode ≡ Err refusal → IsUnfitCall fetch dir rule state name mode refusal

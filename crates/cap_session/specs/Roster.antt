@@ -98,7 +98,7 @@ pub record Extends (old new : RosterValue) : Type 0 where
 -- the roster has the objects that a definition speaks of
 pub record Lists (r : RosterValue) (objects : List Loaded) : Type 0 where
   pub records_are : records_in r ≡ map records_of objects
-  pub names_are : map (λ n. n.0) r.names ≡ map (λ o. o.name) objects
+  pub names_are : r.names ≡ map (λ o. (o.name, true)) objects
   pub bases_are : map (λ m. m.base) r.roots ≡ map (λ o. o.base) objects
 
 -- the memory of an object before it is relocated
