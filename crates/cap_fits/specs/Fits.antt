@@ -1,5 +1,5 @@
 -- The intervals of data in a shared object, and when all of them can be bounded exactly and lie apart.
-use Rattle.std.specs.Prelude.{◌≡◌, ℕ, ◌+◌, ◌-◌, ◌*◌, ◌%◌, ◌^◌, ◌≤◌, ◌⊎◌, Bool, true, false, not, ◌&&◌, nat_lt, List, ◌++◌, map, filter, All, AllPairs, IfSome}
+use Rattle.std.specs.Prelude.{◌≡◌, ℕ, ◌+◌, ◌-◌, ◌*◌, ◌^◌, ◌≤◌, ◌⊎◌, Bool, true, false, not, ◌&&◌, nat_lt, List, ◌++◌, map, filter, All, AllPairs, IfSome}
 use Rattle.cap_base.specs.Lists.{share_byte}
 use Rattle.cap_conc.specs.Computed.{is_exact}
 use Rattle.cap_elf.specs.declared.records.CapReloc.{CapReloc}

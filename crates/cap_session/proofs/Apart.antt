@@ -1,5 +1,5 @@
 -- The data of loaded objects lie apart.
-use Rattle.std.proofs.Common.{◌≡◌, ℕ, suc, zero, ◌+◌, ◌<◌, ◌≤◌, inl, inr, ⊎_elim, false, List, [], ◌∷◌, ◌++◌, length, get_or, map, zip, refl, ap, sym, ◌∙◌, subst, arith}
+use Rattle.std.proofs.Common.{◌≡◌, ℕ, ◌+◌, ◌≤◌, inl, inr, false, List, [], ◌∷◌, length, get_or, map, zip, ap, sym, subst, arith}
 use Rattle.std.specs.Prelude.{All, AllPairs}
 use Rattle.std.proofs.lemmas.Bool.{le-ltb, ltb-false}
 use Rattle.std.proofs.lemmas.List.{get_or-map, length-map}
@@ -7,7 +7,7 @@ use Rattle.std.proofs.lemmas.List.Elements.{All-cons, All-map, All-nil, All-weak
 use Rattle.std.proofs.lemmas.List.Kept.{AllPairs-cons}
 use Rattle.cap_base.specs.Lists.{share_byte}
 use Rattle.cap_elf.specs.DynView.{DynRecords}
-use Rattle.cap_fits.specs.Fits.{Apart, DataLieApart, IsOneOrApart, Placed, ShareNone, data_intervals, loaded_intervals}
+use Rattle.cap_fits.specs.Fits.{DataLieApart, IsOneOrApart, Placed, ShareNone, data_intervals, loaded_intervals}
 use Rattle.cap_own.specs.Cap.{Mapping}
 use Rattle.cap_own.specs.Interval.{Interval, Cover}
 use Rattle.cap_reloc.specs.Binding.{AreMappings}

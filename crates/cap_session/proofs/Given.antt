@@ -1,6 +1,6 @@
 -- What a store gives of a path was read, and bounds are no cause why it gives nothing.
-use Rattle.std.proofs.Common.{◌≡◌, ℕ, suc, zero, ◌+◌, Bool, true, false, List, [], ◌∷◌, ◌++◌, length, refl, ap, sym, ◌∙◌, subst}
-use Rattle.std.specs.Prelude.{◌^◌, ◌-◌, Option, Some, None, Result, Ok, Err, nat_le, nat_lt, not, is_some, if◌then◌else◌}
+use Rattle.std.proofs.Common.{◌≡◌, ℕ, suc, zero, ◌+◌, Bool, true, false, List, [], ◌∷◌, ◌++◌, length, refl, sym, subst}
+use Rattle.std.specs.Prelude.{◌^◌, ◌-◌, Option, Some, None, Result, Ok, Err, nat_le, nat_lt, not, if◌then◌else◌}
 use Rattle.std.specs.Int.{next_multiple_of}
 use Rattle.cap_base.specs.Check.{class_of, number_of}
 use Rattle.cap_base.specs.Outside.{Store, file_in}
@@ -8,7 +8,6 @@ use Rattle.cap_base.specs.Steps.{◌>>=◌, ◌>>◌}
 use Rattle.cap_base.specs.declared.check.Check.TheVariants.{HashChain, ObjectCount, FileSize}
 use Rattle.cap_base.specs.declared.check.Class.{Class}
 use Rattle.cap_base.specs.declared.check.Class.TheVariants as classes
-use Rattle.cap_base.specs.declared.refusal.Fault.{Fault}
 use Rattle.cap_elf.specs.DynView.{DynRecords, dyn_view}
 use Rattle.cap_elf.specs.IsRead.{IsRead}
 use Rattle.cap_reloc.specs.Refusing.{refuse, or_refuse}
@@ -16,10 +15,10 @@ use Rattle.cap_session.specs.declared.refusal.OpenCause.{OpenCause}
 use Rattle.cap_session.specs.declared.refusal.OpenCause.TheVariants.{NoFile, Malformed, Limit, Full}
 use Rattle.cap_session.specs.declared.refusal.OpenRefusal.{OpenRefusal}
 use Rattle.cap_session.specs.Exact.{GivesRead, IsInexact, IsInexactCause}
-use Rattle.cap_session.specs.Loading.{Fetch, Loaded, Source, answerer, at_path, bytes_from, cause_by, cause_of, closed, closed_by, fetch_from, first_unanswered, has_sound_table, loaded_next, next_free, next_object, one_more, path_of, records_from, refusal_as, with_needed}
+use Rattle.cap_session.specs.Loading.{Fetch, Loaded, Source, at_path, bytes_from, cause_by, cause_of, closed, closed_by, fetch_from, first_unanswered, has_sound_table, loaded_next, next_free, next_object, one_more, path_of, records_from, refusal_as, with_needed}
 use Rattle.cap_session.proofs.Begins.{bind_ok}
 use Rattle.cap_session.proofs.Gathered.{as-err, as-ok}
-use Rattle.cap_session.proofs.ReadObjects.{passed, placing}
+use Rattle.cap_session.proofs.ReadObjects.{placing}
 
 -- every refusal of an answer is one of these
 abbrev pub Refuses : {A E : Type 0} → (E → Type 0) → Result A E → Type 0

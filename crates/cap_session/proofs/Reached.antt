@@ -1,15 +1,12 @@
 -- What holds of the states that a start and calls lead to.
-use Rattle.std.proofs.Common.{◌≡◌, ℕ, suc, zero, ◌+◌, ◌-◌, ◌<◌, ◌≤◌, Bool, List, [], ◌∷◌, ◌++◌, length, get_or, map, take, drop, refl, ap, sym, ◌∙◌, subst, arith}
+use Rattle.std.proofs.Common.{◌≡◌, ℕ, ◌+◌, ◌-◌, ◌<◌, ◌≤◌, List, [], ◌∷◌, ◌++◌, length, get_or, map, drop, refl, ap, sym, ◌∙◌, subst, arith}
 use Rattle.std.specs.Prelude.{All, Option, Some, None, Result, Ok, Err, is_some, filter_map, unwrap_or}
 use Rattle.std.specs.List.{AllZip, cons_option, range_with_len}
 use Rattle.std.specs.Result.{result_unwrap_or}
 use Rattle.std.proofs.lemmas.List.{get_or-append-add, length-append, length-map, take-append-drop}
 use Rattle.std.proofs.lemmas.List.Elements.{All-append, All-cons, All-nil, All-push, All-weaker}
 use Rattle.std.proofs.lemmas.List.FromFn.{length-enumerate_from}
-use Rattle.cap_base.specs.Outside.{Store}
 use Rattle.cap_base.specs.Steps.{◌>>=◌, gather}
-use Rattle.cap_elf.specs.DynView.{DynRecords}
-use Rattle.cap_scope.specs.Tree.{tree_of}
 use Rattle.cap_scope.specs.declared.choice.Rule.{Rule}
 use Rattle.cap_reloc.specs.Wanted.{Pair, wanted_pairs}
 use Rattle.cap_session.specs.declared.refusal.Mode.{Mode}
@@ -22,7 +19,7 @@ use Rattle.cap_session.specs.Loading.{Fetch, Loaded, answerer, called, dependenc
 use Rattle.cap_session.specs.Scope.{Opening}
 use Rattle.cap_session.specs.State.{State, opened, opening_of, started}
 use Rattle.cap_session.proofs.Begins.{bind_ok, ok_same, with_named-Begins}
-use Rattle.cap_session.proofs.Gathered.{as-ok, gathered, zip-both, zip-right}
+use Rattle.cap_session.proofs.Gathered.{as-ok, gathered, zip-both}
 use Rattle.cap_session.proofs.Making.{trees-weaker}
 use Rattle.cap_session.proofs.Placed.{IsRelocated, PairLaws, bound-stays, bounds-of, slots-of}
 use Rattle.cap_session.proofs.ReadObjects.{AreLoaded, AreSomeLoaded, named-loads, needed-loads, none-loaded}

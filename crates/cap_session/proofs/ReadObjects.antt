@@ -1,6 +1,6 @@
 -- The objects that loading gives were read, and lie one behind another.
 use Rattle.std.proofs.Common.{◌≡◌, ℕ, suc, zero, ◌+◌, ◌-◌, ◌*◌, ◌/◌, ◌%◌, ◌<◌, ◌≤◌, Bool, true, false, List, [], ◌∷◌, ◌++◌, length, map, refl, ap, sym, ◌∙◌, subst, inl, inr, arith}
-use Rattle.std.specs.Prelude.{All, Option, Some, None, Result, Ok, Err, nat_le, nat_lt, is_some, if◌then◌else◌}
+use Rattle.std.specs.Prelude.{All, Option, Some, None, Result, Ok, nat_le, nat_lt, if◌then◌else◌}
 use Rattle.std.specs.Int.{next_multiple_of}
 use Rattle.std.proofs.Math.Nat.{mul-mod_left, mul-mod_right, mod-lt, mod-eq_of_lt}
 use Rattle.std.proofs.lemmas.Bool.{cases_eq, leb-false, ltb-false}

@@ -1,12 +1,11 @@
 -- A start and a call are refused for bounds only by an object that doesn't fit.
-use Rattle.std.proofs.Common.{◌≡◌, ℕ, suc, zero, ◌+◌, ◌-◌, ◌<◌, ◌≤◌, ⊎_elim, List, [], ◌∷◌, ◌++◌, length, map, drop, refl, ap, sym, ◌∙◌, subst, arith}
+use Rattle.std.proofs.Common.{◌≡◌, ℕ, ◌-◌, ◌<◌, ◌≤◌, ⊎_elim, List, [], ◌∷◌, ◌++◌, length, map, drop, ap, sym, ◌∙◌, subst, arith}
 use Rattle.std.specs.Prelude.{All, IfSome, Option, Some, None, Result, Ok, Err, is_some}
-use Rattle.std.specs.List.{range_with_len}
 use Rattle.std.proofs.lemmas.Bool.{cases_lt}
 use Rattle.std.proofs.lemmas.List.{get_or_past, length-append, length-map, take-append-drop}
 use Rattle.std.proofs.lemmas.List.Elements.{All-nil}
 use Rattle.cap_base.specs.Outside.{Store}
-use Rattle.cap_base.specs.Steps.{◌>>=◌, gather}
+use Rattle.cap_base.specs.Steps.{◌>>=◌}
 use Rattle.cap_elf.specs.DynView.{DynRecords}
 use Rattle.cap_fits.specs.Fits.{Fits}
 use Rattle.cap_scope.specs.declared.choice.Hit.{Hit}
@@ -22,7 +21,7 @@ use Rattle.cap_session.specs.declared.refusal.OpenCause.TheVariants.{NoFile, Mal
 use Rattle.cap_session.specs.declared.refusal.OpenRefusal.{OpenRefusal}
 use Rattle.cap_session.specs.Binding.{objects_of, pairs_for, pairs_from, reloc_refusal, setting_of}
 use Rattle.cap_session.specs.Entering.{start_between}
-use Rattle.cap_session.specs.Exact.{GivesRead, IsInexact, IsReached, IsUnfit, IsUnfitAmong, IsUnfitCall, IsUnfitStart, InexactIsUnfit, IsInexactCause, StoresGiveRead, blamed}
+use Rattle.cap_session.specs.Exact.{GivesRead, IsInexact, IsReached, IsUnfit, IsUnfitCall, IsUnfitStart, InexactIsUnfit, IsInexactCause, StoresGiveRead, blamed}
 use Rattle.cap_session.specs.Loading.{Fetch, Loaded, answerer, fetch_from, records_of, with_named, with_needed}
 use Rattle.cap_session.specs.Refused.{IsRefusedBy, NamesNoFile}
 use Rattle.cap_session.specs.Scope.{Opening}

@@ -3,7 +3,6 @@ use Rattle.std.specs.Prelude.{◌≡◌, ◌≢◌, ◌⊎◌, ℕ, List, [], �
 use Rattle.cap_base.specs.Steps.{◌>>=◌, gather}
 use Rattle.cap_base.specs.Lists.{numbers_between}
 use Rattle.cap_elf.specs.DynView.{DynRecords}
-use Rattle.cap_elf.specs.IsRead.{IsRead}
 use Rattle.cap_mem.specs.Tagged.{TaggedMemory, fresh_memory}
 use Rattle.cap_scope.specs.declared.choice.Hit.{Hit}
 use Rattle.cap_scope.specs.declared.choice.Rule.{Rule}

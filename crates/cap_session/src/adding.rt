@@ -1,7 +1,6 @@
 //! Loading one object.
 
-ghost use Rattle.std.specs.Prelude.{◌≡◌, ◌<◌, Ok, [], length, take, OnOk, OnErr, IfOk, string_bytes, vec_len, vec_capacity};
-ghost use Rattle.std.specs.Str.{IsUtf8};
+ghost use Rattle.std.specs.Prelude.{◌≡◌, ◌<◌, Ok, length, OnOk, IfOk, string_bytes, vec_len, vec_capacity};
 ghost use Rattle.cap_elf.specs.DynView.{dyn_view};
 ghost use Rattle.cap_elf.specs.IsRead.{IsRead};
 ghost use Rattle.cap_scope.specs.Candidates.{hash_table};

@@ -1,6 +1,6 @@
 //! Relocating the objects of a roster, and why one is refused.
 
-ghost use Rattle.std.specs.Prelude.{◌≡◌, ℕ, ◌<◌, ◌≤◌, [], length, drop, codes, All, IfOk, IfErr, OnOk};
+ghost use Rattle.std.specs.Prelude.{◌≡◌, ℕ, ◌<◌, ◌≤◌, [], length, drop, All, IfOk, IfErr, OnOk};
 ghost use Rattle.cap_elf.specs.IsRead.{IsRead};
 ghost use Rattle.cap_scope.specs.Chosen.{object_at};
 ghost use Rattle.cap_reloc.specs.Wanted.{name_at};

@@ -1,10 +1,10 @@
 //! Loading all that the objects need.
 
-ghost use Rattle.std.specs.Prelude.{◌≡◌, ◌+◌, ◌<◌, ◌≤◌, ◌∷◌, ◌++◌, [], Some, None, find, length, map, take, IfOk, IfErr, OnOk, OnErr, slice_index_or};
+ghost use Rattle.std.specs.Prelude.{◌≡◌, ◌+◌, ◌<◌, ◌∷◌, ◌++◌, [], Some, None, find, length, map, take, IfOk, IfErr, OnOk, OnErr, slice_index_or};
 ghost use Rattle.cap_session.specs.Closing.{AddsOne, Behind, Closes, LoadsAll, is_unanswered, needed_by};
 ghost use Rattle.cap_session.specs.Mappings.{IsName};
 ghost use Rattle.cap_session.specs.Refused.{NamesNoFile, ReadsCounted};
-ghost use Rattle.cap_session.specs.Roster.{DepsAnswer, IsClosed, IsRoster, answerer_in};
+ghost use Rattle.cap_session.specs.Roster.{IsClosed, IsRoster, answerer_in};
 
 use crate::adding::{path_of, refusal_at, text_of};
 use crate::refusal::OpenRefusal;

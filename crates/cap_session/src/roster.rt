@@ -1,6 +1,6 @@
 //! The objects of a session in load order, each with all that belongs to it.
 
-ghost use Rattle.std.specs.Prelude.{◌≡◌, ℕ, ◌<◌, ◌≤◌, List, [], length, take, drop, All, IfSome, IfOk, IfErr, OnOk, OnErr, slice_index_or, option_copied, nat_lt, bytes_eq, ◌&&◌, ◌||◌};
+ghost use Rattle.std.specs.Prelude.{◌≡◌, ◌<◌, ◌≤◌, List, [], length, take, drop, All, IfSome, IfOk, IfErr, OnOk, OnErr, slice_index_or, option_copied, nat_lt, bytes_eq, ◌&&◌, ◌||◌};
 ghost use Rattle.cap_session.specs.Loading.{Loaded, fetch_from, has_soname, is_answer, with_needed};
 ghost use Rattle.cap_session.specs.Mappings.{IsName};
 ghost use Rattle.cap_session.specs.Refused.{NamesNoFile, ReadsCounted};

@@ -5,7 +5,6 @@ use Rattle.cap_mem.specs.Tagged.{TaggedMemory}
 use Rattle.cap_scope.specs.Candidates.{hash_table}
 use Rattle.cap_image.specs.Parts.{ImageParts}
 use Rattle.cap_image.specs.Writing.{image_of, image_bytes}
-use Rattle.cap_image.specs.declared.header.Version.TheVariants.{Two}
 use Rattle.cap_session.specs.declared.refusal.OpenCause.{OpenCause}
 use Rattle.cap_session.specs.declared.refusal.OpenCause.TheVariants.{NoFile, Malformed, Unsupported, Unresolved, Inexact, Full, Limit, ReadFault, NoMemory}
 use Rattle.cap_session.specs.declared.refusal.OpenRefusal.{OpenRefusal}
