@@ -36,8 +36,8 @@ abbrev pub is_clear_of : Option (ℕ × ℕ) → ℕ → ℕ → Bool
 is_clear_of None at len = true
 is_clear_of (Some range) at len = nat_le (at + len) range.0 || nat_le range.1 at
 
--- CHERI ISA v9, the permissions of a capability to data: LOAD and LOAD_CAP with GLOBAL, and for data that may be written
--- STORE, STORE_CAP and STORE_LOCAL_CAP too
+-- the rights that this project gives to data, by the permissions of CHERI ISA v9: GLOBAL, LOAD and LOAD_CAP; and where it
+-- may be written, STORE, STORE_CAP and STORE_LOCAL_CAP too
 abbrev pub reading : ℕ
 reading = 0x15
 

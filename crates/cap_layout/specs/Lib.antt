@@ -14,3 +14,4 @@ pub mod PieceOrder
 pub mod CommonMap
 pub mod Held
 pub mod Found
+pub mod Exact

@@ -16,6 +16,7 @@ use Rattle.cap_reloc.specs.Stored.{content_bytes}
 use Rattle.cap_reloc.specs.Setting.{setting_of}
 use Rattle.cap_reloc.specs.Binding.{AreMappings, IsUnrelocated, IsRefusedBy, IsUnfitCause}
 use Rattle.cap_reloc.specs.Planned.{IsSlotIn, IsNarrowedIn, FitsGranule}
+use Rattle.cap_reloc.specs.Laws.{IsOfData}
 use Rattle.cap_reloc.specs.Sound.{IsPlaced}
 use Rattle.cap_reloc.proofs.Mappings.{as_many, mapping_of}
 use Rattle.cap_reloc.proofs.Pages.{multiple_pages}
@@ -58,6 +59,9 @@ unfit_cause roots setting NoMemory placed is = tt
 
 pub narrowed_pairs : (roots : List Mapping) (setting : Setting) (pairs : List Pair) → AreSound roots setting pairs → All (λ p. IsNarrowedIn roots p.content) pairs
 narrowed_pairs roots setting pairs sound = λ k d lt. (sound.each k d lt).sound.narrowed
+
+pub data_pairs : (roots : List Mapping) (setting : Setting) (pairs : List Pair) → AreSound roots setting pairs → All (λ p. IsOfData setting p.content) pairs
+data_pairs roots setting pairs sound = λ k d lt. (sound.each k d lt).sound.data_is
 
 fits_granule : (slot : ℕ) (content : Content) → (length (content_bytes content) ≡ 16 → slot % 16 ≡ 0) → HasFewOwners content → FitsGranule slot content
 fits_granule slot (Number n) h few = tt

@@ -1,9 +1,9 @@
 -- Each capability that is wanted is narrowed from the mapping of the object in which its definition stands, and bounds
 -- are refused only of an object that doesn't fit.
-use Rattle.std.proofs.Common.{◌≡◌, ℕ, ◌+◌, ◌-◌, ◌<◌, ◌≤◌, inl, inr, ⊎_elim, Bool, true, false, not, ◌||◌, List, length, get_or, Option, Some, None, Ok, refl, sym, subst, arith}
-use Rattle.std.specs.Prelude.{IsSomeAnd, slice_get, slice_index, if◌then◌else◌}
+use Rattle.std.proofs.Common.{◌≡◌, ℕ, ◌+◌, ◌-◌, ◌<◌, ◌≤◌, inl, inr, ⊎_elim, Bool, true, false, not, ◌||◌, List, length, get_or, map, Option, Some, None, Ok, refl, sym, ap, ◌∙◌, subst, arith}
+use Rattle.std.specs.Prelude.{Contains, IsSomeAnd, slice_get, slice_index, if◌then◌else◌}
 use Rattle.std.proofs.lemmas.Bool.{cases_lt, not-false, not-true}
-use Rattle.std.proofs.lemmas.List.{get_or_past}
+use Rattle.std.proofs.lemmas.List.{get_or_past, get_or-map, length-map}
 use Rattle.std.proofs.lemmas.Option.{slice_get-get_or}
 use Rattle.cap_mem.specs.Tagged.{word_bytes}
 use Rattle.cap_conc.specs.declared.word.Word.{Word}
@@ -13,6 +13,7 @@ use Rattle.cap_elf.specs.declared.records.Segment.{Segment}
 use Rattle.cap_elf.specs.DynView.{DynRecords}
 use Rattle.cap_elf.specs.Ends.{writes, spans}
 use Rattle.cap_fits.specs.Places.{reading, writing, is_inside, is_clear_of, is_in_code, data_permissions, permissions_in, permissions_of_part, find_last}
+use Rattle.cap_fits.specs.Fits.{data_intervals}
 use Rattle.cap_scope.specs.declared.choice.Hit.{Hit}
 use Rattle.cap_scope.specs.Chosen.{object_at, no_records}
 use Rattle.cap_reloc.specs.declared.refusal.RelocRefusal.{RelocRefusal}
@@ -21,7 +22,9 @@ use Rattle.cap_reloc.specs.Wanted.{Setting, Content, Number, Untagged, Tagged, d
 use Rattle.cap_reloc.specs.Stored.{content_bytes}
 use Rattle.cap_reloc.specs.Planned.{IsNarrowedIn}
 use Rattle.cap_reloc.specs.Sound.{IsPlaced, IsMappingOf, IsCodeIn, code_of}
+use Rattle.cap_reloc.specs.Laws.{IsOfData}
 use Rattle.cap_reloc.proofs.Mappings.{as_many, mapping_of}
+use Rattle.cap_reloc.proofs.Unfit.{IsData}
 use Rattle.cap_reloc.proofs.Saying.{Says, says_ok, says_refuse}
 
 -- an owner is one of 256
@@ -30,10 +33,11 @@ HasFewOwners (Number n) = Unit {0}
 HasFewOwners (Untagged n) = Unit {0}
 HasFewOwners (Tagged c note) = c.owner < 256
 
--- 16 bytes, whose capability was narrowed from its mapping
-pub record IsLong (roots : List Mapping) (content : Content) : Type 0 where
+-- 16 bytes, whose capability was narrowed from its mapping, to data or as a sentry
+pub record IsLong (roots : List Mapping) (setting : Setting) (content : Content) : Type 0 where
   pub long : length (content_bytes content) ≡ 16
   pub narrowed : IsNarrowedIn roots content
+  pub data_is : IsOfData setting content
   pub few : HasFewOwners content
 
 -- the object of an interval that is held is there
@@ -73,15 +77,15 @@ data_rights object at len n is = rights_of_part object at len n (find_last (λ s
 length_word_bytes : (w : Word) → length (word_bytes w) ≡ 16
 length_word_bytes w = refl
 
-long_tagged : (roots : List Mapping) (c : Cap) (note : ℕ) → IsSomeAnd (slice_get roots c.owner) (λ root. IsGrant (record { root = root; cap = c })) → c.owner < 256 → IsLong roots (Tagged c note)
-long_tagged roots c note grant few = record { long = length_word_bytes (word_of_cap c); narrowed = grant; few = few }
+long_tagged : (roots : List Mapping) (setting : Setting) (c : Cap) (note : ℕ) → IsSomeAnd (slice_get roots c.owner) (λ root. IsGrant (record { root = root; cap = c })) → IsOfData setting (Tagged c note) → c.owner < 256 → IsLong roots setting (Tagged c note)
+long_tagged roots setting c note grant data_is few = record { long = length_word_bytes (word_of_cap c); narrowed = grant; data_is = data_is; few = few }
 
-pub exact_says : (roots : List Mapping) (Q : RelocRefusal → Type 0) (hit : Option Hit) (note : ℕ) (c : Cap) → (is_exact c.base c.len ≡ true → IsLong roots (Tagged c note)) → (is_exact c.base c.len ≡ false → Q (Inexact hit c.base c.len)) → Says (IsLong roots) Q (exact_cap hit note c)
+pub exact_says : (roots : List Mapping) (setting : Setting) (Q : RelocRefusal → Type 0) (hit : Option Hit) (note : ℕ) (c : Cap) → (is_exact c.base c.len ≡ true → IsLong roots setting (Tagged c note)) → (is_exact c.base c.len ≡ false → Q (Inexact hit c.base c.len)) → Says (IsLong roots setting) Q (exact_cap hit note c)
 unfolding exact_cap
-exact_says roots Q hit note c held unfit =
-    says_refuse (IsLong roots) Q (not (is_exact c.base c.len)) (Inexact hit c.base c.len) (Ok (Tagged c note))
+exact_says roots setting Q hit note c held unfit =
+    says_refuse (IsLong roots setting) Q (not (is_exact c.base c.len)) (Inexact hit c.base c.len) (Ok (Tagged c note))
     (λ h. unfit (not-true (is_exact c.base c.len) h))
-    (λ h. says_ok (IsLong roots) Q (Tagged c note) (held (not-false (is_exact c.base c.len) h)))
+    (λ h. says_ok (IsLong roots setting) Q (Tagged c note) (held (not-false (is_exact c.base c.len) h)))
 
 -- the mapping of an object is there, under its number
 mapped : (roots : List Mapping) (setting : Setting) (i : ℕ) (P : Mapping → Type 0) → IsPlaced roots setting → i < length setting.objects → ((root : Mapping) → IsMappingOf setting i root → P root) → IsSomeAnd (slice_get roots i) P
@@ -91,12 +95,19 @@ mapped roots setting i P placed lt h =
     let at : slice_get roots i ≡ Some (get_or roots i none) = slice_get-get_or roots i none (omega (arith, many, lt)) in
     rw at (h (get_or roots i none) (mapping_of roots setting i none placed lt))
 
+contains_map : {X Y : Type 0} (f : X → Y) (xs : List X) (x : X) → Contains xs x → Contains (map f xs) (f x)
+contains_map f xs x h = (
+  h.0,
+  (let many = length-map xs f in let lt = h.1 in omega (arith, many, lt)),
+  get_or-map f xs h.0 x (f x) h.1 ∙ ap f h.2,
+)
+
 pub data_long : (roots : List Mapping) (setting : Setting) (i at len offset perms note : ℕ) → IsPlaced roots setting → i < length setting.objects → at + len ≤ (object_at setting.objects i).span → offset ≤ len → IsSubset perms 0x7D
-    → is_exact (slice_index setting.bases i + at) len ≡ true → IsLong roots (Tagged (data_cap (slice_index setting.bases i) i at len offset perms) note)
-data_long roots setting i at len offset perms note placed lt within low rights exact =
+    → IsData (object_at setting.objects i) at len → is_exact (slice_index setting.bases i + at) len ≡ true → IsLong roots setting (Tagged (data_cap (slice_index setting.bases i) i at len offset perms) note)
+data_long roots setting i at len offset perms note placed lt within low rights member exact =
     let c = data_cap (slice_index setting.bases i) i at len offset perms in
     let few = placed.few in
-    long_tagged roots c note
+    long_tagged roots setting c note
     (mapped roots setting i (λ root. IsGrant (record { root = root; cap = c })) placed lt (λ root of.
     let size = of.mapping.size in
     let base = of.base in
@@ -110,18 +121,19 @@ data_long roots setting i at len offset perms note placed lt within low rights e
       from_base = omega arith;
       to_top = omega (arith, low);
     }))
+    (inr (contains_map (λ (x : ℕ × ℕ). (slice_index setting.bases i + x.0, x.1)) (data_intervals (object_at setting.objects i)) (at, len) member))
     (omega (arith, lt, few))
 
 pub code_long : (roots : List Mapping) (setting : Setting) (i at note : ℕ) → IsPlaced roots setting → i < length setting.objects → IsCodeIn (object_at setting.objects i) at
     → is_exact (slice_index setting.bases i + (code_of (object_at setting.objects i)).0) ((code_of (object_at setting.objects i)).1 - (code_of (object_at setting.objects i)).0) ≡ true
-    → IsLong roots (Tagged (function_cap (object_at setting.objects i) (slice_index setting.bases i) i at) note)
+    → IsLong roots setting (Tagged (function_cap (object_at setting.objects i) (slice_index setting.bases i) i at) note)
 code_long roots setting i at note placed lt code exact =
     let c = function_cap (object_at setting.objects i) (slice_index setting.bases i) i at in
     let few = placed.few in
     let from = code.from in
     let to = code.to in
     let within = code.within in
-    long_tagged roots c note
+    long_tagged roots setting c note
     (mapped roots setting i (λ root. IsGrant (record { root = root; cap = c })) placed lt (λ root of.
     let size = of.mapping.size in
     let base = of.base in
@@ -135,4 +147,5 @@ code_long roots setting i at note placed lt code exact =
       from_base = omega (arith, from);
       to_top = omega (arith, from, to);
     }))
+    (inl refl)
     (omega (arith, lt, few))

@@ -1,6 +1,6 @@
 -- What holds of all pairs that are wanted, and of a refusal.
-use Rattle.std.proofs.Common.{◌≡◌, ℕ, zero, suc, ◌+◌, ◌<◌, ◌≤◌, ◌^◌, ◌%◌, ⊎_elim, Bool, true, false, not, ◌&&◌, ◌||◌, ◌==◌, List, [], ◌∷◌, ◌++◌, length, get_or, map, Option, Some, None, Result, Ok, Err, refl, sym, ◌∙◌, subst, arith}
-use Rattle.std.specs.Prelude.{⊤, All, nat_lt, if◌then◌else◌}
+use Rattle.std.proofs.Common.{◌≡◌, ℕ, zero, suc, ◌+◌, ◌<◌, ◌≤◌, ◌%◌, ⊎_elim, Bool, true, false, not, ◌&&◌, ◌||◌, ◌==◌, List, [], ◌∷◌, ◌++◌, length, get_or, map, Option, Some, None, Result, Ok, Err, refl, sym, ◌∙◌, subst, arith}
+use Rattle.std.specs.Prelude.{⊤, All, if◌then◌else◌}
 use Rattle.std.proofs.lemmas.Bool.{not-false, eqb-true, le-ltb, ltb-false, cases_lt}
 use Rattle.std.proofs.lemmas.List.{append-nil, length-append, get_or_append_left, get_or-append-add}
 use Rattle.std.proofs.lemmas.List.Folds.{list_any-append}
@@ -12,6 +12,7 @@ use Rattle.cap_own.specs.Cap.{Mapping}
 use Rattle.cap_elf.specs.declared.records.CapReloc.{CapReloc}
 use Rattle.cap_elf.specs.declared.records.DynReloc.{DynReloc}
 use Rattle.cap_fits.specs.Places.{is_in_writable}
+use Rattle.cap_fits.specs.Fits.{is_data_entry}
 use Rattle.cap_reloc.specs.declared.refusal.RelocRefusal.{RelocRefusal}
 use Rattle.cap_reloc.specs.declared.refusal.RelocRefusal.TheVariants.{Unresolved}
 use Rattle.cap_reloc.specs.declared.target.Target.{Target}
@@ -20,6 +21,7 @@ use Rattle.cap_reloc.specs.Refusing.{refuse, malformed, unsupported}
 use Rattle.cap_reloc.specs.Wanted.{Setting, Pair, Content, Number, Relocation, Entry, Record, relocations_of, own, bias, slot_of, width_of_kind, is_kind, touches, slot_fails, plus_signed, number_for, target_of, capability_for, record_content, entry_content, pair_at, entry_pair, slot_pair, record_pair, wanted, wanted_pairs}
 use Rattle.cap_reloc.specs.Stored.{content_bytes}
 use Rattle.cap_reloc.specs.Binding.{IsUnfitCause}
+use Rattle.cap_reloc.specs.Laws.{IsOfData}
 use Rattle.cap_reloc.specs.Planned.{IsNarrowedIn, SlotsAreApart, interval_of}
 use Rattle.cap_reloc.specs.Sound.{IsPlaced}
 use Rattle.cap_reloc.specs.Adds.{list_of}
@@ -30,13 +32,15 @@ use Rattle.cap_reloc.proofs.Unfit.{IsData, entry_is_data}
 use Rattle.cap_reloc.proofs.Contents.{object_read, entry_says, reference_says}
 use Rattle.cap_reloc.proofs.Planning.{wanted_from, wanted_more, wanted_refused}
 
--- what is wanted of a slot: in the object's span, as long as the slot is, and narrowed from its mapping
+-- what is wanted of a slot: in the object's span, as long as the slot is, and narrowed from its mapping, to data or as a
+-- sentry
 pub record IsSoundPair (roots : List Mapping) (setting : Setting) (slot : ℕ × ℕ) (p : Pair) : Type 0 where
   pub at : p.slot ≡ bias setting + slot.0
   pub long : length (content_bytes p.content) ≡ slot.1
   pub within : slot.0 + slot.1 ≤ (own setting).span
   pub aligned : slot.1 ≡ 16 → slot.0 % 16 ≡ 0
   pub narrowed : IsNarrowedIn roots p.content
+  pub data_is : IsOfData setting p.content
   pub few : HasFewOwners p.content
 
 pub record IsSomeSlot (roots : List Mapping) (setting : Setting) (p : Pair) : Type 0 where
@@ -69,9 +73,10 @@ good_slot roots setting touched slot placed h =
     }
 
 -- ---- contents of records
-record IsHeld (roots : List Mapping) (width : ℕ) (content : Content) : Type 0 where
+record IsHeld (roots : List Mapping) (setting : Setting) (width : ℕ) (content : Content) : Type 0 where
   pub long : length (content_bytes content) ≡ width
   pub narrowed : IsNarrowedIn roots content
+  pub data_is : IsOfData setting content
   pub few : HasFewOwners content
 
 eight : (k : ℕ) (b : Bool) → (k == 2) ≡ true → width_of_kind k ≡ 8
@@ -91,24 +96,24 @@ sixteen false false false true e h p q r = refl
 sixteen false false false false true h p q r = refl
 sixteen false false false false false h p q r = let no : false ≡ true = h in cc
 
-number_says : (roots : List Mapping) (setting : Setting) (width n : ℕ) → width ≡ 8 → Says (IsHeld roots width) (IsUnfitCause setting) (Ok (Number n))
-number_says roots setting width n is = says_ok (IsHeld roots width) (IsUnfitCause setting) (Number n) (record { long = sym is; narrowed = tt; few = tt })
+number_says : (roots : List Mapping) (setting : Setting) (width n : ℕ) → width ≡ 8 → Says (IsHeld roots setting width) (IsUnfitCause setting) (Ok (Number n))
+number_says roots setting width n is = says_ok (IsHeld roots setting width) (IsUnfitCause setting) (Number n) (record { long = sym is; narrowed = tt; data_is = tt; few = tt })
 
 number_for_says : (setting : Setting) (i : ℕ) (target : Target) → Says (λ n. ⊤) (IsUnfitCause setting) (number_for setting i target)
 number_for_says setting i (Definition hit) = says_ok _ (IsUnfitCause setting) _ tt
 number_for_says setting i Zero = says_ok _ (IsUnfitCause setting) _ tt
 number_for_says setting i Missing = says_err _ (IsUnfitCause setting) (Unresolved i) tt
 
-long_held : (roots : List Mapping) (setting : Setting) (width : ℕ) (r : Result Content RelocRefusal) → width ≡ 16 → Says (IsLong roots) (IsUnfitCause setting) r → Says (IsHeld roots width) (IsUnfitCause setting) r
+long_held : (roots : List Mapping) (setting : Setting) (width : ℕ) (r : Result Content RelocRefusal) → width ≡ 16 → Says (IsLong roots setting) (IsUnfitCause setting) r → Says (IsHeld roots setting width) (IsUnfitCause setting) r
 long_held roots setting width r is h = record {
-  ok = λ c e. let l = h.ok c e in record { long = l.long ∙ sym is; narrowed = l.narrowed; few = l.few };
+  ok = λ c e. let l = h.ok c e in record { long = l.long ∙ sym is; narrowed = l.narrowed; data_is = l.data_is; few = l.few };
   err = h.err;
 }
 
-record_says : (roots : List Mapping) (setting : Setting) (r : DynReloc) → IsPlaced roots setting → is_kind r.kind ≡ true → (r.kind == 0) ≡ false → Says (IsHeld roots (width_of_kind r.kind)) (IsUnfitCause setting) (record_content setting r)
+record_says : (roots : List Mapping) (setting : Setting) (r : DynReloc) → IsPlaced roots setting → is_kind r.kind ≡ true → (r.kind == 0) ≡ false → Says (IsHeld roots setting (width_of_kind r.kind)) (IsUnfitCause setting) (record_content setting r)
 unfolding record_content
 record_says roots setting r placed kind some =
-    let P = IsHeld roots (width_of_kind r.kind) in
+    let P = IsHeld roots setting (width_of_kind r.kind) in
     let Q = IsUnfitCause setting in
     let number : ℕ → Result Content RelocRefusal = λ n. Ok (Number (plus_signed n r.addend)) in
     let second = number_for setting r.symbol (target_of setting r.symbol) >>= number in
@@ -123,7 +128,7 @@ record_says roots setting r placed kind some =
 abbrev IsGoodPair : List Mapping → Setting → Bool → ℕ × ℕ → Pair → Type 0
 IsGoodPair roots setting touched slot p = IsSoundPair roots setting slot p × (touched ≡ false)
 
-pair_says : (roots : List Mapping) (setting : Setting) (touched : Bool) (slot : ℕ × ℕ) (content : Result Content RelocRefusal) (at : ℕ) → IsPlaced roots setting → Says (IsHeld roots slot.1) (IsUnfitCause setting) content
+pair_says : (roots : List Mapping) (setting : Setting) (touched : Bool) (slot : ℕ × ℕ) (content : Result Content RelocRefusal) (at : ℕ) → IsPlaced roots setting → Says (IsHeld roots setting slot.1) (IsUnfitCause setting) content
     → Says (IsGoodPair roots setting touched slot) (IsUnfitCause setting) (refuse (slot_fails (own setting) touched slot) (malformed RelocationSlot at) >> (content >>= λ c. Ok (pair_at setting slot.0 c)))
 pair_says roots setting touched slot content at placed h =
     let P = IsGoodPair roots setting touched slot in
@@ -131,12 +136,12 @@ pair_says roots setting touched slot content at placed h =
     let last : Content → Result Pair RelocRefusal = λ c. Ok (pair_at setting slot.0 c) in
     says_refuse P Q (slot_fails (own setting) touched slot) (malformed RelocationSlot at) (content >>= last) (λ e. tt) (λ passed.
     let good = good_slot roots setting touched slot placed passed in
-    says_bind (IsHeld roots slot.1) P Q content last h (λ c held.
-    says_ok P Q (pair_at setting slot.0 c) (record { at = refl; long = held.long; within = good.within; aligned = good.aligned; narrowed = held.narrowed; few = held.few }, good.free)))
+    says_bind (IsHeld roots setting slot.1) P Q content last h (λ c held.
+    says_ok P Q (pair_at setting slot.0 c) (record { at = refl; long = held.long; within = good.within; aligned = good.aligned; narrowed = held.narrowed; data_is = held.data_is; few = held.few }, good.free)))
 
 -- an entry for data describes an interval of the object's data
 abbrev IsKnown : Setting → Relocation → Type 0
-IsKnown setting (Entry e) = nat_lt e.permissions (2 ^ 63) ≡ true → IsData (own setting) e.object e.size
+IsKnown setting (Entry e) = is_data_entry e ≡ true → IsData (own setting) e.object e.size
 IsKnown setting (Record r) = Unit {0}
 
 abbrev IsWanted : List Mapping → Setting → List Relocation → Relocation → Option Pair → Type 0

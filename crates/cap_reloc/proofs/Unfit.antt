@@ -1,8 +1,9 @@
 -- Bounds are refused only of what doesn't fit.
-use Rattle.std.proofs.Common.{◌≡◌, ℕ, zero, suc, ◌+◌, ◌*◌, ◌/◌, ◌-◌, ◌%◌, ◌^◌, ◌<◌, ◌≤◌, ⊎_elim, Bool, true, false, cond, not, ◌&&◌, List, [], ◌∷◌, ◌++◌, length, get_or, map, filter, Option, Some, None, refl, subst, arith}
-use Rattle.std.specs.Prelude.{All, IfSome, slice_index, nat_lt, unwrap_or}
+use Rattle.std.proofs.Common.{◌≡◌, ℕ, zero, suc, ◌+◌, ◌*◌, ◌/◌, ◌-◌, ◌%◌, ◌<◌, ◌≤◌, ⊎_elim, Bool, true, false, cond, List, [], ◌∷◌, ◌++◌, length, get_or, map, filter, Option, Some, None, refl, subst, arith}
+use Rattle.std.specs.Prelude.{All, Contains, IfSome, slice_index, unwrap_or}
 use Rattle.std.proofs.lemmas.Bool.{cases_Bool, cases_lt}
 use Rattle.std.proofs.lemmas.List.{get_or_past, get_or_append_left, get_or-append-add, length-append}
+use Rattle.std.proofs.lemmas.List.Elements.{All-contains, All-contains_itself}
 use Rattle.std.proofs.Math.Nat.{div-add-mod}
 use Rattle.cap_conc.specs.Computed.{is_exact}
 use Rattle.cap_own.specs.Cap.{Mapping}
@@ -11,7 +12,7 @@ use Rattle.cap_elf.specs.declared.records.CapReloc.{CapReloc}
 use Rattle.cap_elf.specs.DynView.{DynRecords}
 use Rattle.cap_elf.specs.Exported.{is_defined}
 use Rattle.cap_fits.specs.Places.{code_range, is_absolute, is_function}
-use Rattle.cap_fits.specs.Fits.{Fits, data_intervals}
+use Rattle.cap_fits.specs.Fits.{Fits, data_intervals, interval_of_entry, interval_of_symbol, is_data, is_data_entry}
 use Rattle.cap_scope.specs.Chosen.{object_at}
 use Rattle.cap_reloc.specs.Wanted.{Setting, symbol_at, no_symbol}
 use Rattle.cap_reloc.specs.Sound.{IsPlaced, IsCodeIn, code_of}
@@ -30,9 +31,9 @@ multiple roots setting i placed lt =
     let turn : (base / align) * align ≡ align * (base / align) = omega arith in
     omega (arith, whole, split, turn)
 
--- an interval of the object's data: it is exact where all of them are
+-- an interval of the object's data
 abbrev pub IsData : DynRecords → ℕ → ℕ → Type 0
-IsData object at len = (b : ℕ) → All (λ x. is_exact (b + x.0) x.1 ≡ true) (data_intervals object) → is_exact (b + at) len ≡ true
+IsData object at len = Contains (data_intervals object) (at, len)
 
 pub unfit_data : (roots : List Mapping) (setting : Setting) (i at len : ℕ) → IsPlaced roots setting → i < length setting.objects → IsData (object_at setting.objects i) at len
     → is_exact (slice_index setting.bases i + at) len ≡ false → Fits (object_at setting.objects i) → ⊥
@@ -40,7 +41,7 @@ unfit_data roots setting i at len placed lt member inexact fits =
     let align : ℕ = (object_at setting.objects i).align in
     let base : ℕ = slice_index setting.bases i in
     let k : ℕ = base / align in
-    let exact : is_exact (k * align + at) len ≡ true = member (k * align) (fits.data_exact k) in
+    let exact : is_exact (k * align + at) len ≡ true = All-contains (λ (x : ℕ × ℕ). is_exact (k * align + x.0) x.1 ≡ true) (data_intervals (object_at setting.objects i)) (at, len) (fits.data_exact k) member in
     let here : is_exact (base + at) len ≡ true = subst (λ (b : ℕ). is_exact (b + at) len ≡ true) (multiple roots setting i placed lt) exact in cc
 
 exact_range : (b at : ℕ) (range : Option (ℕ × ℕ)) → IfSome range (λ c. is_exact (b + c.0) (c.1 - c.0) ≡ true) → at < (unwrap_or range (0, 0)).1
@@ -82,26 +83,20 @@ all_right P xs ys all = λ k d lt.
     let many = length-append xs ys in
     subst P (get_or-append-add xs ys k d) (all (length xs + k) d (omega (arith, many, lt)))
 
-abbrev is_data_symbol : Symbol → Bool
-is_data_symbol s = is_defined s.place && not (is_absolute s.place) && not (is_function s)
-
-abbrev is_data_entry : CapReloc → Bool
-is_data_entry e = nat_lt e.permissions (2 ^ 63)
-
 pub symbol_is_data : (object : DynRecords) (i : ℕ) → is_defined (symbol_at object i).place ≡ true → is_absolute (symbol_at object i).place ≡ false → is_function (symbol_at object i) ≡ false → IsData object (symbol_at object i).value (symbol_at object i).size
-symbol_is_data object i defined relative no_code b all =
-    let P : ℕ × ℕ → Type 0 = λ x. is_exact (b + x.0) x.1 ≡ true in
+symbol_is_data object i defined relative no_code =
+    let P : ℕ × ℕ → Type 0 = Contains (data_intervals object) in
     let s : Symbol = symbol_at object i in
-    let passes : is_data_symbol s ≡ true = rw (defined, relative, no_code) refl in
+    let passes : is_data s ≡ true = rw (defined, relative, no_code) refl in
     ⊎_elim
-    (λ (lt : i < length object.symbols). filtered_at P (λ t. (t.value, t.size)) is_data_symbol object.symbols i no_symbol (all_left P _ (map (λ e. (e.object, e.size)) (filter is_data_entry object.cap_relocs)) all) lt passes)
+    (λ (lt : i < length object.symbols). filtered_at P interval_of_symbol is_data object.symbols i no_symbol (all_left P _ (map interval_of_entry (filter is_data_entry object.cap_relocs)) (All-contains_itself (data_intervals object))) lt passes)
     (λ (ge : length object.symbols ≤ i).
     let none : s ≡ no_symbol = get_or_past object.symbols i no_symbol ge in
     let no : is_defined no_symbol.place ≡ true = subst (λ (t : Symbol). is_defined t.place ≡ true) none defined in
     let never : false ≡ true = no in cc)
     (cases_lt i (length object.symbols))
 
-pub entry_is_data : (object : DynRecords) (i : ℕ) (d : CapReloc) → i < length object.cap_relocs → nat_lt (get_or object.cap_relocs i d).permissions (2 ^ 63) ≡ true → IsData object (get_or object.cap_relocs i d).object (get_or object.cap_relocs i d).size
-entry_is_data object i d lt passes b all =
-    let P : ℕ × ℕ → Type 0 = λ x. is_exact (b + x.0) x.1 ≡ true in
-    filtered_at P (λ e. (e.object, e.size)) is_data_entry object.cap_relocs i d (all_right P (map (λ s. (s.value, s.size)) (filter is_data_symbol object.symbols)) _ all) lt passes
+pub entry_is_data : (object : DynRecords) (i : ℕ) (d : CapReloc) → i < length object.cap_relocs → is_data_entry (get_or object.cap_relocs i d) ≡ true → IsData object (get_or object.cap_relocs i d).object (get_or object.cap_relocs i d).size
+entry_is_data object i d lt passes =
+    let P : ℕ × ℕ → Type 0 = Contains (data_intervals object) in
+    filtered_at P interval_of_entry is_data_entry object.cap_relocs i d (all_right P (map interval_of_symbol (filter is_data object.symbols)) _ (All-contains_itself (data_intervals object))) lt passes

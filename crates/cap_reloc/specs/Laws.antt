@@ -1,10 +1,12 @@
 -- Laws of the pairs that are wanted, and of what memory holds once pairs are stored whose slots lie in it.
-use Rattle.std.specs.Prelude.{◌≡◌, ℕ, ◌-◌, ◌<◌, Bool, true, false, ◌&&◌, ◌==◌, All, List, length, filter, find, slice_index, Some, None, Ok, Err}
+use Rattle.std.specs.Prelude.{◌≡◌, ◌⊎◌, ℕ, ◌-◌, ◌<◌, Bool, true, false, ◌&&◌, ◌==◌, All, Contains, List, length, filter, find, slice_index, Some, None, Ok, Err}
 use Rattle.std.specs.List.{list_any}
 use Rattle.cap_own.specs.Cap.{word_of_cap}
 use Rattle.cap_mem.specs.IsMemory.{IsMemory}
 use Rattle.cap_mem.specs.Tagged.{TaggedMemory, TaggedWord, is_of, is_tagged, tagged_word, list_of, stands_at, bytes_at, word_in, IsInside}
 use Rattle.cap_own.specs.Cap.{Mapping}
+use Rattle.cap_fits.specs.Fits.{loaded_intervals}
+use Rattle.cap_scope.specs.Chosen.{object_at}
 use Rattle.cap_reloc.specs.declared.refusal.RelocRefusal.{RelocRefusal}
 use Rattle.cap_reloc.specs.Binding.{IsUnrelocated, IsUnfitCause}
 use Rattle.cap_reloc.specs.Sound.{IsPlaced}
@@ -86,3 +88,15 @@ WantedIsInside =
 abbrev pub RefusedIsUnfit : Type 0
 RefusedIsUnfit =
     (roots : List Mapping) (setting : Setting) (refusal : RelocRefusal) → IsPlaced roots setting → wanted_pairs setting ≡ Err refusal → IsUnfitCause setting refusal
+
+-- the capability is a sentry, or its bounds are an interval of data of the object that owns it
+abbrev pub IsOfData : Setting → Content → Type 0
+IsOfData setting (Number n) = Unit {0}
+IsOfData setting (Untagged n) = Unit {0}
+IsOfData setting (Tagged c note) =
+    (c.sealed ≡ true) ⊎ Contains (loaded_intervals (object_at setting.objects c.owner) (slice_index setting.bases c.owner)) (c.base, c.len)
+
+-- each capability that is wanted and not sealed has the bounds of data
+abbrev pub WantedIsData : Type 0
+WantedIsData =
+    (roots : List Mapping) (setting : Setting) (pairs : List Pair) → IsPlaced roots setting → wanted_pairs setting ≡ Ok pairs → All (λ p. IsOfData setting p.content) pairs

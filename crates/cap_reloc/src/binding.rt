@@ -29,12 +29,13 @@ use std::alloc::Global;
 /// - by `Addend`, where the offset into a function isn't 0, or that into data is past its end;
 /// - Inexact with no hit, where a capability can't have the bounds of the data, or of the range of code, exactly.
 ///
-/// A record is refused, in this order,
+/// A record of the kind NONE is passed over. Any other is refused, in this order,
 ///
 /// - Unsupported by `RelocationKind`, where its kind isn't NONE, R_RISCV_64, R_RISCV_RELATIVE, R_RISCV_JUMP_SLOT or
 ///   CAPABILITY (193);
-/// - Malformed by `RelocationSlot`, as above, for the 8 or 16 bytes of its slot;
-/// - Unresolved, where its symbol is GLOBAL and no definition was found;
+/// - Malformed by `RelocationSlot`, as above, for the 8 or 16 bytes of its slot, where one of 8 bytes may stand at any
+///   place;
+/// - Unresolved, where it isn't R_RISCV_RELATIVE, its symbol is GLOBAL and no definition was found;
 /// - by `SymbolInterval`, `Addend` and Inexact, as above, where it asks for a capability to what isn't absolute; a symbol
 ///   of the type SECTION, FILE or COMMON fails the first of them.
 ///

@@ -8,7 +8,7 @@ ghost use Rattle.cap_reloc.specs.Laws.{
   OthersStay,
   SizeStays,
 };
-ghost use Rattle.cap_reloc.specs.Laws.{WantedIsNarrowed, WantedIsApart, WantedIsInside, RefusedIsUnfit};
+ghost use Rattle.cap_reloc.specs.Laws.{WantedIsNarrowed, WantedIsApart, WantedIsInside, WantedIsData, RefusedIsUnfit};
 
 /// States what memory holds once the pairs of an object are stored. It computes nothing.
 pub fn storing_laws()
@@ -30,4 +30,5 @@ pub fn binding_laws()
     ensures apart { WantedIsApart }
     ensures inside { WantedIsInside }
     ensures unfit { RefusedIsUnfit }
+    ensures bounds { WantedIsData }
 {}

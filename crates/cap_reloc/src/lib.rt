@@ -9,7 +9,7 @@
 //! What is hard is to stay near-linear and still say what the definition says, which looks at all segments and at all
 //! earlier slots for each relocation. Segments ascend, so that the last one that begins at an address or below it decides
 //! what the address is in; taken slots stand in a map by their places, so that the last one that begins before a slot's
-//! end decides whether they share a byte; an object's range of code is found once.
+//! end decides whether they share a byte; the ranges of code are found once a call.
 //!
 //! Which definition a name has is decided in `cap_scope`, which bounds are exact in `cap_conc`, and which objects are
 //! relocated when, and in which scope, in `cap_session`.

@@ -11,11 +11,19 @@ use Rattle.cap_session.specs.Roster.{RosterValue, IsRoster, IsClosed, Lists, ans
 abbrev made : List DynRecords → List ℕ → List (List ℕ) → Objects
 made records bases names = record { records = records; bases = bases; names = names }
 
+words_first : (objects : List Loaded) → map (λ (n : List ℕ × Bool). n.0) (map (λ (o : Loaded). (o.name, true)) objects) ≡ map (λ (o : Loaded). o.name) objects
+words_first [] = refl
+words_first (o ∷ objects) = ap (λ (words : List (List ℕ)). o.name ∷ words) (words_first objects)
+
+-- the words of a roster are those of the objects that it lists
+pub names_first : (r : RosterValue) (objects : List Loaded) → Lists r objects → map (λ (n : List ℕ × Bool). n.0) r.names ≡ map (λ (o : Loaded). o.name) objects
+names_first r objects h = ap (map (λ (n : List ℕ × Bool). n.0)) h.names_are ∙ words_first objects
+
 pub objects_same : (r : RosterValue) (objects : List Loaded) → Lists r objects → objects_in r ≡ objects_of objects
 objects_same r objects h =
     let records = h.records_are in
     let bases = h.bases_are in
-    let names = h.names_are in
+    let names = names_first r objects h in
     let e : made (records_in r) (map (λ m. m.base) r.roots) (map (λ n. n.0) r.names) ≡ made (map records_of objects) (map (λ o. o.base) objects) (map (λ o. o.name) objects) = cc in
     e
 
@@ -25,7 +33,7 @@ called-same (o ∷ objects) = ap (λ (rest : List Called). called o ∷ rest) (c
 
 pub answerer-same : (r : RosterValue) (objects : List Loaded) → Lists r objects → (name : List ℕ) → answerer_in r name ≡ answerer objects name
 answerer-same r objects h name =
-    ap (λ (names : List (List ℕ)). answer_among (zip names (records_in r)) name) h.names_are
+    ap (λ (names : List (List ℕ)). answer_among (zip names (records_in r)) name) (names_first r objects h)
     ∙ (ap (λ (records : List DynRecords). answer_among (zip (map (λ o. o.name) objects) records) name) h.records_are
     ∙ ap (λ (all : List Called). answer_among all name) (called-same objects))
 
@@ -68,6 +76,6 @@ deps-same r objects h closed lists =
 pub lists-none : (r : RosterValue) (dir : List ℕ) → r ≡ empty_roster dir → Lists r []
 lists-none r dir e = record {
   records_are = ap records_in e;
-  names_are = ap (λ (r : RosterValue). map (λ n. n.0) r.names) e;
+  names_are = ap (λ (r : RosterValue). r.names) e;
   bases_are = ap (λ (r : RosterValue). map (λ m. m.base) r.roots) e;
 }

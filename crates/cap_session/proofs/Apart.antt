@@ -1,146 +1,106 @@
--- The mappings of a state lie one behind another.
-use Rattle.std.proofs.Common.{◌≡◌, ℕ, suc, zero, ◌+◌, ◌-◌, ◌*◌, ◌/◌, ◌%◌, ◌<◌, ◌≤◌, Bool, true, false, List, [], ◌∷◌, ◌++◌, length, refl, ap, sym, ◌∙◌, subst, inl, inr, arith}
-use Rattle.std.specs.Prelude.{Option, Some, None, Result, Ok, Err, nat_le, nat_lt, is_some, if◌then◌else◌}
-use Rattle.std.specs.Int.{next_multiple_of}
-use Rattle.std.proofs.Math.Nat.{mul-mod_left, mul-mod_right, mod-lt, mod-eq_of_lt}
-use Rattle.std.proofs.lemmas.Bool.{cases_eq, ltb-false}
-use Rattle.std.proofs.lemmas.Nat.{div-add-mod'}
-use Rattle.cap_base.specs.Check.{number_of}
-use Rattle.cap_base.specs.Steps.{◌>>=◌, ◌>>◌}
-use Rattle.cap_base.specs.declared.check.Check.TheVariants.{ObjectCount}
-use Rattle.cap_reloc.specs.Refusing.{refuse}
-use Rattle.cap_reloc.specs.Wanted.{Pair}
-use Rattle.cap_scope.specs.declared.choice.Rule.{Rule}
-use Rattle.cap_session.specs.declared.refusal.Mode.{Mode}
-use Rattle.cap_session.specs.declared.refusal.OpenCause.{OpenCause}
-use Rattle.cap_session.specs.declared.refusal.OpenCause.TheVariants.{Limit, Full}
-use Rattle.cap_session.specs.declared.refusal.OpenRefusal.{OpenRefusal}
-use Rattle.cap_session.specs.Binding.{objects_of, pairs_from}
-use Rattle.cap_session.specs.Entering.{start_between}
-use Rattle.cap_session.specs.Laws.{HasAlignments, LieBehind}
-use Rattle.cap_session.specs.Loading.{Fetch, Loaded, Source, answerer, closed, closed_by, first_unanswered, loaded_next, next_free, next_object, one_more, at_path, path_of, records_of, with_named, with_needed}
-use Rattle.cap_session.specs.State.{State, opened, opening_of, started}
-use Rattle.cap_session.proofs.Begins.{bind_ok, cause_ok_same, ok_same, seen_ok}
+-- The data of loaded objects lie apart.
+use Rattle.std.proofs.Common.{◌≡◌, ℕ, ◌+◌, ◌≤◌, inl, inr, false, List, [], ◌∷◌, length, get_or, map, zip, ap, sym, subst, arith}
+use Rattle.std.specs.Prelude.{All, AllPairs}
+use Rattle.std.proofs.lemmas.Bool.{le-ltb, ltb-false}
+use Rattle.std.proofs.lemmas.List.{get_or-map, length-map}
+use Rattle.std.proofs.lemmas.List.Elements.{All-cons, All-map, All-nil, All-weaker}
+use Rattle.std.proofs.lemmas.List.Kept.{AllPairs-cons}
+use Rattle.cap_base.specs.Lists.{share_byte}
+use Rattle.cap_elf.specs.DynView.{DynRecords}
+use Rattle.cap_fits.specs.Fits.{DataLieApart, IsOneOrApart, Placed, ShareNone, data_intervals, loaded_intervals}
+use Rattle.cap_own.specs.Cap.{Mapping}
+use Rattle.cap_own.specs.Interval.{Interval, Cover}
+use Rattle.cap_reloc.specs.Binding.{AreMappings}
+use Rattle.cap_session.specs.Exact.{IsReached, LieBehind, placed_in, placed_objects}
+use Rattle.cap_session.specs.Loading.{Loaded, records_of}
+use Rattle.cap_session.specs.Mappings.{spans_of}
+use Rattle.cap_session.specs.Session.{IsSession, SessionValue, all_records, roster_in}
+use Rattle.cap_session.specs.State.{State}
+use Rattle.cap_session.proofs.RosterLemmas.{pads_roots}
 
-rounded-multiple : (n g : ℕ) → 0 < g → next_multiple_of n g % g ≡ 0
-rounded-multiple n g some =
-    let split : n / g * g + n % g ≡ n = div-add-mod' n g in
-    elim (cases_eq (n % g) 0) [
-      | inl none ↦
-          let whole : g - n % g ≡ g * 1 = omega (arith, none) in
-          let nothing : (g - n % g) % g ≡ 0 = ap (λ (k : ℕ). k % g) whole ∙ mul-mod_right g 1 in
-          let same : next_multiple_of n g ≡ n / g * g = omega (arith, nothing, split, none) in
-          ap (λ (k : ℕ). k % g) same ∙ mul-mod_left (n / g) g
-      | inr rest ↦
-          let low : n % g < g = mod-lt n some in
-          let small : g - n % g < g = omega (arith, rest, some) in
-          let kept : (g - n % g) % g ≡ g - n % g = mod-eq_of_lt small in
-          let same : next_multiple_of n g ≡ (n / g + 1) * g = omega (arith, kept, split, low) in
-          ap (λ (k : ℕ). k % g) same ∙ mul-mod_left (n / g + 1) g
-    ]
+-- an interval of an object that begins at an address
+abbrev moved : ℕ → ℕ × ℕ → ℕ × ℕ
+moved base i = (base + i.0, i.1)
 
-rounded-from : (n g : ℕ) → n ≤ next_multiple_of n g
-rounded-from n g = omega arith
+-- an object ends where another begins, or before
+abbrev EndsBefore : Placed → Placed → Type 0
+EndsBefore a b = a.1 + a.0.span ≤ b.1
 
--- where the last of these ends
-abbrev end_from : ℕ → List Loaded → ℕ
-end_from from [] = from
-end_from from (o ∷ objects) = end_from (o.base + (records_of o).span) objects
+moved-apart : (base : ℕ) (x y : ℕ × ℕ) → IsOneOrApart x y → IsOneOrApart (moved base x) (moved base y)
+moved-apart base x y (inl e) = inl (ap (moved base) e)
+moved-apart base x y (inr e) = inr (let le = ltb-false _ _ e in le-ltb _ _ (omega (arith, le)))
 
-free-end : (x : ℕ) (o : Loaded) (objects : List Loaded) → next_free (o ∷ objects) ≡ end_from x (o ∷ objects)
-free-end x o [] = refl
-free-end x o (p ∷ objects) = free-end (o.base + (records_of o).span) p objects
+pairs-moved : (base : ℕ) (xs : List (ℕ × ℕ)) → AllPairs IsOneOrApart xs → AllPairs IsOneOrApart (map (moved base) xs)
+pairs-moved base xs h i j d before lt =
+    let many = length-map xs (moved base) in
+    let first : get_or (map (moved base) xs) i d ≡ moved base (get_or xs i d) = get_or-map (moved base) xs i d d (omega (arith, many, before, lt)) in
+    let second : get_or (map (moved base) xs) j d ≡ moved base (get_or xs j d) = get_or-map (moved base) xs j d d (omega (arith, many, lt)) in
+    subst (λ (x : ℕ × ℕ). IsOneOrApart x (get_or (map (moved base) xs) j d)) (sym first)
+    (subst (λ (y : ℕ × ℕ). IsOneOrApart (moved base (get_or xs i d)) y) (sym second)
+    (moved-apart base (get_or xs i d) (get_or xs j d) (h i j d before (omega (arith, many, lt)))))
 
-free-is : (objects : List Loaded) → next_free objects ≡ end_from 0x40000000 objects
-free-is [] = refl
-free-is (o ∷ objects) = free-end 0x40000000 o objects
+one-before : (a b span : ℕ) (x y : ℕ × ℕ) → x.0 + x.1 ≤ span → a + span ≤ b → share_byte (moved a x) (moved b y) ≡ false
+one-before a b span x y within before = le-ltb _ _ (omega (arith, within, before))
 
-push : (from : ℕ) (objects : List Loaded) (o : Loaded) → LieBehind from objects → end_from from objects ≤ o.base → o.base % (records_of o).align ≡ 0 → o.base + (records_of o).span ≤ 0x44000000
-    → LieBehind from (objects ++ o ∷ [])
-push from [] o h low aligned high = (low, aligned, high)
-push from (p ∷ objects) o h low aligned high = (h.0, h.1, push (p.base + (records_of p).span) objects o h.2 low aligned high)
+share-none : (a b : Placed) → EndsBefore a b → ShareNone a b
+share-none a b before = λ x y.
+    All-map (λ (i : ℕ × ℕ). All (λ (j : ℕ × ℕ). share_byte i j ≡ false) (loaded_intervals b.0 b.1)) (moved a.1) (data_intervals a.0)
+    (All-weaker (λ (i : ℕ × ℕ). i.0 + i.1 ≤ a.0.span) (λ (i : ℕ × ℕ). All (λ (j : ℕ × ℕ). share_byte (moved a.1 i) j ≡ false) (loaded_intervals b.0 b.1))
+    (λ i within. All-map (λ (j : ℕ × ℕ). share_byte (moved a.1 i) j ≡ false) (moved b.1) (data_intervals b.0) (λ k d lt. one-before a.1 b.1 a.0.span i (get_or (data_intervals b.0) k d) within before))
+    (data_intervals a.0) x.within)
 
--- the last steps of loading an object, from its file on
-abbrev placing : ℕ → List ℕ → Source → Result Loaded OpenCause
-placing free name source =
-    let base = next_multiple_of free source.records.align in
-    refuse (nat_lt 0x44000000 (base + source.records.span)) (Full source.records.span (0x44000000 - free))
-    >> Ok (record { name = name; source = source; base = base })
+lie-apart : (objects : List Placed) → AllPairs EndsBefore objects → DataLieApart objects
+lie-apart objects h = record {
+  own = λ k d lt apart. pairs-moved (get_or objects k d).1 (data_intervals (get_or objects k d).0) apart.apart;
+  others = λ i j d before lt. share-none (get_or objects i d) (get_or objects j d) (h i j d before lt);
+}
 
-passed : {B E : Type 0} (b : Bool) (e : E) (r : Result B E) (y : B) → (refuse b e >> r) ≡ Ok y → b ≡ false
-passed true e r y h = absurd cc
-passed false e r y h = refl
+-- ---- of a state
+abbrev BeginsAt : ℕ → Placed → Type 0
+BeginsAt from p = from ≤ p.1
 
-object_same : (x y : Loaded) → ◌≡◌ {A = Result Loaded OpenCause} (Ok x) (Ok y) → x ≡ y
-object_same x y e = cc
+all-behind : (from : ℕ) (objects : List Loaded) → LieBehind from objects → All (BeginsAt from) (placed_objects objects)
+all-behind from [] h = All-nil (BeginsAt from)
+all-behind from (o ∷ objects) h =
+    let next : ℕ = o.base + (records_of o).span in
+    let low = h.0 in
+    All-cons (BeginsAt from) (records_of o, o.base) (placed_objects objects) low
+    (All-weaker (BeginsAt next) (BeginsAt from) (λ p at. omega (arith, low, at)) (placed_objects objects) (all-behind next objects h.2))
 
-unrefused : {B E : Type 0} (b : Bool) (e : E) (r : Result B E) (y : B) → (refuse b e >> r) ≡ Ok y → r ≡ Ok y
-unrefused true e r y h = absurd cc
-unrefused false e r y h = h
+ends-before : (from : ℕ) (objects : List Loaded) → LieBehind from objects → AllPairs EndsBefore (placed_objects objects)
+ends-before from [] h = λ i j d before lt. absurd (omega (arith, lt))
+ends-before from (o ∷ objects) h =
+    let next : ℕ = o.base + (records_of o).span in
+    AllPairs-cons EndsBefore (records_of o, o.base) (placed_objects objects) (all-behind next objects h.2) (ends-before next objects h.2)
 
-one_more-lies : (fetch : Fetch) (path : List ℕ) (objects : List Loaded) (name : List ℕ) (more : List Loaded) → HasAlignments fetch → LieBehind 0x40000000 objects
-    → one_more fetch path objects name ≡ Ok more → LieBehind 0x40000000 more
-one_more-lies fetch path objects name more some h e =
-    let found = bind_ok (next_object fetch path (length objects) (next_free objects) name) (λ object. Ok (objects ++ object ∷ [])) more e in
-    let few = unrefused (nat_le 256 (length objects)) (Limit (number_of ObjectCount)) (fetch path >>= placing (next_free objects) name) found.0 found.1 in
-    let read = bind_ok (fetch path) (placing (next_free objects) name) found.0 few in
-    let source : Source = read.0 in
-    let base = next_multiple_of (next_free objects) source.records.align in
-    let o : Loaded = record { name = name; source = source; base = base } in
-    let over = nat_lt 0x44000000 (base + source.records.span) in
-    let room = passed over (Full source.records.span (0x44000000 - next_free objects)) (Ok o) found.0 read.2 in
-    let same = unrefused over (Full source.records.span (0x44000000 - next_free objects)) (Ok o) found.0 read.2 in
-    let is : found.0 ≡ o = sym (object_same o found.0 same) in
-    let high : base + source.records.span ≤ 0x44000000 = ltb-false 0x44000000 (base + source.records.span) room in
-    let low : end_from 0x40000000 objects ≤ base = subst (λ (free : ℕ). free ≤ base) (free-is objects) (rounded-from (next_free objects) source.records.align) in
-    let lies = push 0x40000000 objects o h low (rounded-multiple (next_free objects) source.records.align (some path source read.1)) high in
-    subst (λ (xs : List Loaded). LieBehind 0x40000000 xs) (ap (λ (x : Loaded). objects ++ x ∷ []) (sym is) ∙ cause_ok_same (objects ++ found.0 ∷ []) more found.2) lies
+pub state-apart : (state : State) → IsReached state → DataLieApart (placed_objects state.objects)
+state-apart state h = lie-apart (placed_objects state.objects) (ends-before 0x40000000 state.objects h.behind)
 
-loaded_next-lies : (fetch : Fetch) (dir : List ℕ) (objects : List Loaded) (name : List ℕ) (more : List Loaded) → HasAlignments fetch → LieBehind 0x40000000 objects → loaded_next fetch dir objects name ≡ Ok more → LieBehind 0x40000000 more
-loaded_next-lies fetch dir objects name more some h e =
-    one_more-lies fetch (path_of dir (length objects) name) objects name more some h (seen_ok (at_path (path_of dir (length objects) name)) (one_more fetch (path_of dir (length objects) name) objects name) more e)
+-- ---- of a session
+abbrev placed_by : List DynRecords → List Mapping → List Placed
+placed_by records roots = zip records (map (λ r. r.base) roots)
 
-closed_by-lies : (n : ℕ) (fetch : Fetch) (dir : List ℕ) (objects last : List Loaded) → HasAlignments fetch → LieBehind 0x40000000 objects → closed_by n fetch dir objects ≡ Ok last → LieBehind 0x40000000 last
-closed_by-lies zero fetch dir objects last some h e = go (first_unanswered objects) e
-  where
-    go : (o : Option (List ℕ))
-        → ◌≡◌ {A = Result (List Loaded) OpenRefusal} (elim o [ None ↦ Ok objects | Some name ↦ loaded_next fetch dir objects name ]) (Ok last) → LieBehind 0x40000000 last
-    go None e = subst (λ (xs : List Loaded). LieBehind 0x40000000 xs) (ok_same objects last e) h
-    go (Some name) e = loaded_next-lies fetch dir objects name last some h e
-closed_by-lies (suc n) fetch dir objects last some h e = go (λ more. closed_by-lies n fetch dir more last some) (first_unanswered objects) e
-  where
-    go : ((more : List Loaded) → LieBehind 0x40000000 more → closed_by n fetch dir more ≡ Ok last → LieBehind 0x40000000 last)
-        → (o : Option (List ℕ))
-        → ◌≡◌ {A = Result (List Loaded) OpenRefusal} (elim o [ None ↦ Ok objects | Some name ↦ loaded_next fetch dir objects name >>= λ more. closed_by n fetch dir more ]) (Ok last) → LieBehind 0x40000000 last
-    go rest None e = subst (λ (xs : List Loaded). LieBehind 0x40000000 xs) (ok_same objects last e) h
-    go rest (Some name) e =
-        let step = bind_ok (loaded_next fetch dir objects name) (closed_by n fetch dir) last e in
-        rest step.0 (loaded_next-lies fetch dir objects name step.0 some h step.1) step.2
+all-covered : (start next : ℕ) (records : List DynRecords) (pads : List Interval) (roots : List Mapping) → length pads ≡ length roots → Cover start (spans_of pads roots) next → All (BeginsAt start) (placed_by records roots)
+all-covered start next [] pads roots same h = All-nil (BeginsAt start)
+all-covered start next (o ∷ records) pads [] same h = All-nil (BeginsAt start)
+all-covered start next (o ∷ records) [] (r ∷ roots) same h = absurd (omega (arith, same))
+all-covered start next (o ∷ records) (p ∷ pads) (r ∷ roots) same h =
+    let first = h.0 in
+    let second = h.1.0 in
+    All-cons (BeginsAt start) (o, r.base) (placed_by records roots) (omega (arith, first, second))
+    (All-weaker (BeginsAt (r.base + r.len)) (BeginsAt start) (λ q at. omega (arith, first, second, at)) (placed_by records roots) (all-covered (r.base + r.len) next records pads roots (omega (arith, same)) h.1.1))
 
-needed-lies : (fetch : Fetch) (dir : List ℕ) (objects : List Loaded) (name : List ℕ) (last : List Loaded) → HasAlignments fetch → LieBehind 0x40000000 objects → with_needed fetch dir objects name ≡ Ok last → LieBehind 0x40000000 last
-needed-lies fetch dir objects name last some h e =
-    let step = bind_ok (loaded_next fetch dir objects name) (closed fetch dir) last e in
-    closed_by-lies (256 - length step.0) fetch dir step.0 last some (loaded_next-lies fetch dir objects name step.0 some h step.1) step.2
+ends-covered : (start next n : ℕ) (records : List DynRecords) (pads : List Interval) (roots : List Mapping) → length pads ≡ length roots → AreMappings records n roots → Cover start (spans_of pads roots) next
+    → AllPairs EndsBefore (placed_by records roots)
+ends-covered start next n [] pads roots same are h = λ i j d before lt. absurd (omega (arith, lt))
+ends-covered start next n (o ∷ records) pads [] same are h = absurd are
+ends-covered start next n (o ∷ records) [] (r ∷ roots) same are h = absurd (omega (arith, same))
+ends-covered start next n (o ∷ records) (p ∷ pads) (r ∷ roots) same are h =
+    let size = are.0.size in
+    AllPairs-cons EndsBefore (o, r.base) (placed_by records roots)
+    (All-weaker (BeginsAt (r.base + r.len)) (EndsBefore (o, r.base)) (λ q at. omega (arith, size, at)) (placed_by records roots) (all-covered (r.base + r.len) next records pads roots (omega (arith, same)) h.1.1))
+    (ends-covered (r.base + r.len) next (n + 1) records pads roots (omega (arith, same)) are.1 h.1.1)
 
-named-lies : (fetch : Fetch) (dir : List ℕ) (objects : List Loaded) (name : List ℕ) (found : Bool) (last : List Loaded) → HasAlignments fetch → LieBehind 0x40000000 objects
-    → (if found then Ok objects else with_needed fetch dir objects name) ≡ Ok last → LieBehind 0x40000000 last
-named-lies fetch dir objects name true last some h e = subst (λ (xs : List Loaded). LieBehind 0x40000000 xs) (ok_same objects last e) h
-named-lies fetch dir objects name false last some h e = needed-lies fetch dir objects name last some h e
-
-pub start-lies : (fetch : Fetch) (dir main : List ℕ) (rule : Rule) (state : State) → HasAlignments fetch → started fetch dir main rule ≡ Ok state → LieBehind 0x40000000 state.objects
-start-lies fetch dir main rule state some e =
-    let loaded = bind_ok (with_needed fetch dir [] main) (λ objects. pairs_from rule dir (objects_of objects) (length objects) [] 0 >>= λ pairs. Ok (record { objects = objects; pairs = pairs; openings = []; start_count = length objects; starts = 0 ∷ [] })) state e in
-    let objects : List Loaded = loaded.0 in
-    let bound = bind_ok (pairs_from rule dir (objects_of objects) (length objects) [] 0) (λ pairs. Ok (record { objects = objects; pairs = pairs; openings = []; start_count = length objects; starts = 0 ∷ [] })) state loaded.2 in
-    let is = ok_same (record { objects = objects; pairs = bound.0; openings = []; start_count = length objects; starts = 0 ∷ [] }) state bound.2 in
-    let low : LieBehind 0x40000000 [] = omega arith in
-    subst (λ (s : State). LieBehind 0x40000000 s.objects) is (needed-lies fetch dir [] main objects some low loaded.1)
-
-pub call-lies : (fetch : Fetch) (dir : List ℕ) (rule : Rule) (state : State) (name : List ℕ) (mode : Mode) (next : State) → HasAlignments fetch → LieBehind 0x40000000 state.objects → opened fetch dir rule state name mode ≡ Ok next → LieBehind 0x40000000 next.objects
-call-lies fetch dir rule state name mode next some h e =
-    let made : List Loaded → List (List Pair) → State = λ objects pairs. record { objects = objects; pairs = state.pairs ++ pairs; openings = state.openings ++ opening_of objects name mode ∷ []; start_count = state.start_count; starts = state.starts ++ start_between (length state.objects) (length objects) } in
-    let loaded = bind_ok (with_named fetch dir state.objects name) (λ objects. pairs_from rule dir (objects_of objects) state.start_count (state.openings ++ opening_of objects name mode ∷ []) (length state.objects) >>= λ pairs. Ok (made objects pairs)) next e in
-    let objects : List Loaded = loaded.0 in
-    let bound = bind_ok (pairs_from rule dir (objects_of objects) state.start_count (state.openings ++ opening_of objects name mode ∷ []) (length state.objects)) (λ pairs. Ok (made objects pairs)) next loaded.2 in
-    let is = ok_same (made objects bound.0) next bound.2 in
-    subst (λ (s : State). LieBehind 0x40000000 s.objects) is (named-lies fetch dir state.objects name (is_some (answerer state.objects name)) objects some h loaded.1)
+pub session-apart : (s : SessionValue) → IsSession s → DataLieApart (placed_in s)
+session-apart s h =
+    lie-apart (placed_in s) (ends-covered 0x40000000 s.next 0 (all_records s) s.pads s.roots (pads_roots (roster_in s) h.roster) h.roster.mappings h.roster.covered)

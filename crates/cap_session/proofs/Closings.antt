@@ -96,8 +96,7 @@ lists_more r objects name source h =
           map-append (λ (o : DynValue). o.records) r.objects (numbered_source r source ∷ []) ∙ ap (λ os. os ++ source.records ∷ []) h.records_are
           ∙ sym (map-append records_of objects (o ∷ []));
       names_are =
-          map-append (λ (n : List ℕ × Bool). n.0) r.names ((name, true) ∷ []) ∙ ap (λ ns. ns ++ name ∷ []) h.names_are
-          ∙ sym (map-append (λ (o : Loaded). o.name) objects (o ∷ []));
+          ap (λ (ns : List (List ℕ × Bool)). ns ++ (name, true) ∷ []) h.names_are ∙ sym (map-append (λ (o : Loaded). (o.name, true)) objects (o ∷ []));
       bases_are =
           map-append (λ (m : Mapping). m.base) r.roots (record { base = next_base r source.records; len = source.records.span; owner = length r.objects } ∷ [])
           ∙ ap (λ ns. ns ++ next_base r source.records ∷ []) h.bases_are

@@ -19,4 +19,11 @@ pub mod Closings
 pub mod Loads
 pub mod RosterLemmas
 pub mod Texts
+pub mod ReadObjects
+pub mod Answered
+pub mod Placed
+pub mod Gathered
+pub mod Reached
 pub mod Apart
+pub mod Given
+pub mod Unfit

@@ -56,7 +56,7 @@ stands : (now grown : RosterValue) (look_up : LookUp) (starts : List ℕ) (objec
     → StandsFor (session_with now look_up starts) (record { objects = objects; pairs = pairs ++ more; openings = openings; start_count = start_count; starts = starts' })
 stands now grown look_up starts objects pairs more openings start_count starts' n olds h closed lists rest fits some here count stand placed new eo es est = record {
   objects_are = ap records_in rest ∙ lists.records_are;
-  names_are = ap (λ (r : RosterValue). map (λ n. n.0) r.names) rest ∙ lists.names_are;
+  names_are = ap (λ (r : RosterValue). r.names) rest ∙ lists.names_are;
   bases_are = ap (λ (r : RosterValue). map (λ m. m.base) r.roots) rest ∙ lists.bases_are;
   deps_are = ap (λ (r : RosterValue). r.deps) rest ∙ deps-same grown objects h closed lists;
   pair_count = omega (arith, length-append pairs more, some, count, fits);

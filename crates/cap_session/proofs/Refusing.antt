@@ -7,7 +7,7 @@ use Rattle.cap_session.specs.declared.refusal.OpenRefusal.{OpenRefusal}
 use Rattle.cap_session.specs.Adding.{TellsPath, is_no_memory}
 use Rattle.cap_session.specs.Causes.{IsCausedBy}
 use Rattle.cap_session.specs.Loading.{at_path, refusal_as}
-use Rattle.cap_session.specs.Refused.{IsRefusedBy}
+use Rattle.cap_session.specs.Refused.{IsRefusedBy, NamesNoFile}
 
 told_at : {T : Type 0} (w : Result T OpenCause) (path : List ℕ) (cause : OpenCause) → is_no_memory cause ≡ false → IsCausedBy w cause → IsRefusedBy (refusal_as (at_path path) w) (at_path path cause) cause
 told_at w path NoFile n h = ap (refusal_as (at_path path)) h
@@ -49,3 +49,10 @@ as_refused view (Err e) f refusal h = refused_err (view e) refusal h
   where
     refused_err : {A B : Type 0} (a b : OpenRefusal) → ◌≡◌ {A = Result A OpenRefusal} (Err a) (Err b) → ◌≡◌ {A = Result B OpenRefusal} (Err a) (Err b)
     refused_err a b h = cc
+
+pub tells_starved : (path : List ℕ) (cause : OpenCause) (refusal : OpenRefusal) → TellsPath path cause refusal → NamesNoFile refusal
+tells_starved path cause refusal (inl h) e = h.1
+tells_starved path cause refusal (inr h) e =
+    let same : cause ≡ NoMemory = sym (ap (λ (r : OpenRefusal). r.cause) h.0) ∙ e in
+    let none : is_no_memory NoMemory ≡ false = subst (λ (c : OpenCause). is_no_memory c ≡ false) same h.1 in
+    let no : true ≡ false = none in cc

@@ -117,7 +117,7 @@ deps-below r h = lists-below (answerer_in r) (length r.objects) (answerer-below 
 pub closed-below : (r : RosterValue) → IsRoster r → IsClosed r → All (λ of. All (λ i. i < length r.deps) of) r.deps
 closed-below r h closed = subst (λ (n : ℕ). All (λ of. All (λ i. i < n) of) r.deps) (sym closed) (deps-below r h)
 
-root-below : (n : ℕ) (o : Option ℕ) → ((i : ℕ) → o ≡ Some i → i < n) → 0 < n → unwrap_or o 0 < n
+pub root-below : (n : ℕ) (o : Option ℕ) → ((i : ℕ) → o ≡ Some i → i < n) → 0 < n → unwrap_or o 0 < n
 root-below n None h some = some
 root-below n (Some i) h some = h i refl
 

@@ -10,6 +10,7 @@ use Rattle.cap_scope.specs.Chosen.{no_records, object_at}
 use Rattle.cap_session.specs.Closing.{is_unanswered, needed_by}
 use Rattle.cap_session.specs.Loading.{Called, Loaded, answer_among, answerer, called, first_unanswered, needed_names, records_of}
 use Rattle.cap_session.specs.Roster.{RosterValue, IsClosed, IsRoster, Lists, answerer_in, called_in, records_in}
+use Rattle.cap_session.proofs.Answering.{names_first}
 use Rattle.cap_session.proofs.Answerers.{head_same, tail_same, zip_called}
 
 abbrev needed : DynRecords → List (List ℕ)
@@ -76,7 +77,7 @@ flat_map_map (o ∷ objects) = ap (λ ns. (records_of o).needed ++ ns) (flat_map
 -- what the objects that a roster lists are called
 pub called_same : (r : RosterValue) (objects : List Loaded) → Lists r objects → map called objects ≡ called_in r
 called_same r objects h =
-    sym (zip_called objects) ∙ ap (λ (ns : List (List ℕ)). zip ns (map records_of objects)) (sym h.names_are) ∙ ap (zip (map (λ (n : List ℕ × Bool). n.0) r.names)) (sym h.records_are)
+    sym (zip_called objects) ∙ ap (λ (ns : List (List ℕ)). zip ns (map records_of objects)) (sym (names_first r objects h)) ∙ ap (zip (map (λ (n : List ℕ × Bool). n.0) r.names)) (sym h.records_are)
 
 pub first_is : (r : RosterValue) (objects : List Loaded) → Lists r objects → first_unanswered objects ≡ unanswered_in r
 first_is r objects h =

@@ -3,7 +3,6 @@ use Rattle.std.specs.Prelude.{◌≡◌, ◌≢◌, ◌⊎◌, ℕ, List, [], �
 use Rattle.cap_base.specs.Steps.{◌>>=◌, gather}
 use Rattle.cap_base.specs.Lists.{numbers_between}
 use Rattle.cap_elf.specs.DynView.{DynRecords}
-use Rattle.cap_elf.specs.IsRead.{IsRead}
 use Rattle.cap_mem.specs.Tagged.{TaggedMemory, fresh_memory}
 use Rattle.cap_scope.specs.declared.choice.Hit.{Hit}
 use Rattle.cap_scope.specs.declared.choice.Rule.{Rule}
@@ -125,7 +124,7 @@ pub record StaysBelow (from : ℕ) (old new : RosterValue) : Type 0 where
   pub rest : new ≡ record old { memories = new.memories }
   pub first : take from new.memories ≡ take from old.memories
 
--- the tagged words of a memory have owners, and notes that are symbols of these
+-- each tagged word was narrowed from the mapping of its owner, and its note is one of the owner's symbols
 pub record HasOwned (r : RosterValue) (memory : TaggedMemory) : Type 0 where
   pub narrowed : AreNarrowed r.roots memory
   pub noted : AreNoted (records_in r) memory

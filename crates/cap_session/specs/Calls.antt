@@ -1,5 +1,5 @@
 -- A whole run of calls: the state that it leads to, the refusal that ends it, and those that are passed over.
-use Rattle.std.specs.Prelude.{ℕ, Bool, true, false, not, ◌==◌, List, [], ◌∷◌, ◌++◌, filter_map, take_while, Option, Some, None, Result, Ok, Err, if◌then◌else◌}
+use Rattle.std.specs.Prelude.{ℕ, Bool, true, false, List, [], ◌∷◌, Option, Some, None, Result, Ok, Err, if◌then◌else◌}
 use Rattle.std.specs.Result.{result_unwrap_or}
 use Rattle.cap_scope.specs.declared.choice.Rule.{Rule}
 use Rattle.cap_session.specs.declared.form.Form.{Form}
@@ -22,7 +22,7 @@ mode_of Open = Local
 mode_of forms.Global = Global
 mode_of Try = Local
 
--- whether a refusal of a call of this form is passed over
+-- whether a refusal that the files decide, of a call of this form, is passed over
 abbrev pub passes_over : Form → Bool
 passes_over Open = false
 passes_over forms.Global = false

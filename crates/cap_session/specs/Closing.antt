@@ -1,6 +1,5 @@
 -- Loading all that is needed, step by step.
-use Rattle.std.specs.Prelude.{◌≡◌, ℕ, ◌<◌, Bool, List, [], ◌∷◌, ◌++◌, length, map, All, Option, Some, IfSome, Result, Ok, Err, is_none, is_some, slice_index_or}
-use Rattle.std.specs.List.{list_all}
+use Rattle.std.specs.Prelude.{◌≡◌, ℕ, Bool, List, [], ◌++◌, length, map, All, Option, IfSome, Result, Ok, Err, is_none}
 use Rattle.cap_base.specs.Outside.{Store}
 use Rattle.cap_mem.specs.Tagged.{TaggedMemory}
 use Rattle.cap_scope.specs.Chosen.{object_at}

@@ -1,15 +1,9 @@
 -- How the calls of a session end.
-use Rattle.std.specs.Prelude.{◌≡◌, ◌^◌, ℕ, ◌+◌, ◌-◌, ◌<◌, ◌≤◌, List, [], ◌∷◌, ◌++◌, length, Option, Some, None, IfSome, Result, Ok, Err}
-use Rattle.cap_base.specs.Outside.{Store, Rose}
-use Rattle.cap_scope.specs.declared.choice.Rule.{Rule}
-use Rattle.cap_session.specs.declared.refusal.Mode.{Mode}
+use Rattle.std.specs.Prelude.{◌≡◌, Result, Ok, Err}
 use Rattle.cap_session.specs.declared.refusal.Ready.{Ready}
-use Rattle.cap_session.specs.declared.refusal.OpenCause.{OpenCause}
-use Rattle.cap_session.specs.declared.refusal.OpenCause.TheVariants.{NoFile, Malformed, Unsupported, Unresolved, Inexact, Full, Limit, ReadFault, NoMemory}
 use Rattle.cap_session.specs.declared.refusal.OpenRefusal.{OpenRefusal}
-use Rattle.cap_session.specs.Loading.{Fetch, fetch_from}
 use Rattle.cap_session.specs.Refused.{IsRefusedBy}
-use Rattle.cap_session.specs.State.{State, started, opened}
+use Rattle.cap_session.specs.State.{State}
 use Rattle.cap_session.specs.Session.{SessionValue, StandsFor}
 
 -- the session stands for the wanted state

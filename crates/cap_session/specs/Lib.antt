@@ -15,4 +15,4 @@ pub mod Calls
 pub mod Session
 pub mod Endings
 pub mod Kept
-pub mod Laws
+pub mod Exact

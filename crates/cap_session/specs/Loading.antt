@@ -149,14 +149,14 @@ abbrev pub first_unanswered : List Loaded → Option (List ℕ)
 first_unanswered objects = find (λ name. is_none (answerer objects name)) (needed_names objects)
 
 -- objects are loaded, each for the first needed name to which none before it answers, until each such name is
--- answered, as many at most as the number says, and then it ends
+-- answered: at most one more than the number says, and that one is refused where 256 are loaded
 abbrev pub closed_by : ℕ → Fetch → List ℕ → List Loaded → Result (List Loaded) OpenRefusal
 closed_by zero fetch dir objects =
     elim (first_unanswered objects) [ None ↦ Ok objects | Some name ↦ loaded_next fetch dir objects name ]
 closed_by (suc more) fetch dir objects =
     elim (first_unanswered objects) [ None ↦ Ok objects | Some name ↦ loaded_next fetch dir objects name >>= λ next. closed_by more fetch dir next ]
 
--- the same for as many as there may be more: there are never more than 256
+-- the same for as many as there may be more: there are never more than 256. So each needed name is answered at the end
 abbrev pub closed : Fetch → List ℕ → List Loaded → Result (List Loaded) OpenRefusal
 closed fetch dir objects = closed_by (256 - length objects) fetch dir objects
 

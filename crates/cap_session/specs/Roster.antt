@@ -1,5 +1,5 @@
 -- The objects of a session in load order, each with all that belongs to it: what is stated of loading them.
-use Rattle.std.specs.Prelude.{◌≡◌, ℕ, ◌+◌, ◌%◌, ◌<◌, ◌≤◌, Bool, nat_lt, ◌&&◌, ◌||◌, List, [], ◌∷◌, ◌++◌, length, map, zip, take, drop, All, Option, Some, None, Result, Ok, Err, slice_get}
+use Rattle.std.specs.Prelude.{◌≡◌, ℕ, ◌≤◌, Bool, List, [], ◌++◌, length, map, zip, take, drop, All, Option, Some, None, Result, Ok, Err, slice_get}
 use Rattle.std.specs.List.{AllZip}
 use Rattle.cap_own.specs.Interval.{Interval, Cover}
 use Rattle.cap_own.specs.Cap.{Mapping}
@@ -14,7 +14,6 @@ use Rattle.cap_session.specs.declared.refusal.OpenRefusal.{OpenRefusal}
 use Rattle.cap_session.specs.Loading.{Called, Loaded, records_of, answer_among}
 use Rattle.cap_session.specs.Refused.{IsRefusedBy}
 use Rattle.cap_session.specs.Mappings.{IsName, IsMappingOf, IsMemoryOf, spans_of}
-use Rattle.std.specs.Str.{bytes_eq}
 
 -- the objects; the words under which they were first sought; for the first of them, those that answer to their needed
 -- names; before each mapping its pad; the mappings; the memories; the names of their symbols; the next free address
@@ -98,7 +97,7 @@ pub record Extends (old new : RosterValue) : Type 0 where
 -- the roster has the objects that a definition speaks of
 pub record Lists (r : RosterValue) (objects : List Loaded) : Type 0 where
   pub records_are : records_in r ≡ map records_of objects
-  pub names_are : map (λ n. n.0) r.names ≡ map (λ o. o.name) objects
+  pub names_are : r.names ≡ map (λ o. (o.name, true)) objects
   pub bases_are : map (λ m. m.base) r.roots ≡ map (λ o. o.base) objects
 
 -- the memory of an object before it is relocated

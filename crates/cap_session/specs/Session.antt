@@ -80,7 +80,7 @@ pub record IsSession (s : SessionValue) : Type 0 where
 -- word
 pub record StandsFor (s : SessionValue) (state : State) : Type 0 where
   pub objects_are : all_records s ≡ map records_of state.objects
-  pub names_are : map (λ n. n.0) s.names ≡ map (λ o. o.name) state.objects
+  pub names_are : s.names ≡ map (λ o. (o.name, true)) state.objects
   pub bases_are : map (λ r. r.base) s.roots ≡ map (λ o. o.base) state.objects
   pub deps_are : s.deps ≡ dependencies state.objects
   pub pair_count : length state.pairs ≡ length state.objects

@@ -1,7 +1,6 @@
 //! Loading one object.
 
-ghost use Rattle.std.specs.Prelude.{◌≡◌, ◌<◌, Ok, [], length, take, OnOk, OnErr, IfOk, string_bytes, vec_len, vec_capacity};
-ghost use Rattle.std.specs.Str.{IsUtf8};
+ghost use Rattle.std.specs.Prelude.{◌≡◌, ◌<◌, Ok, length, OnOk, IfOk, string_bytes, vec_len, vec_capacity};
 ghost use Rattle.cap_elf.specs.DynView.{dyn_view};
 ghost use Rattle.cap_elf.specs.IsRead.{IsRead};
 ghost use Rattle.cap_scope.specs.Candidates.{hash_table};
@@ -9,6 +8,7 @@ ghost use Rattle.cap_session.specs.Adding.{Adds, Puts, TellsPath, is_no_memory a
 ghost use Rattle.cap_session.specs.Causes.{CountedBy};
 ghost use Rattle.cap_session.specs.Loading.{path_of as path_to};
 ghost use Rattle.cap_session.specs.Mappings.{IsName};
+ghost use Rattle.cap_session.specs.Refused.{NamesNoFile};
 ghost use Rattle.cap_session.specs.Roster.{IsRoster};
 
 use crate::fetching::{Fetched, fetch, refusal_cause};
@@ -172,8 +172,10 @@ pub(crate) fn text_of(name: &[u8]) -> &str
 }
 
 /// The refusal of a path by a cause.
+#[tactic(auto, using(crate::proofs::Refusing::tells_starved))]
 pub(crate) fn refusal_at(alloc: Global, path: &str, cause: OpenCause) -> OpenRefusal
-    ensures { TellsPath path.now cause result }
+    ensures tells { TellsPath path.now cause result }
+    ensures starved { NamesNoFile result }
 {
     if is_no_memory(&cause) {
         return no_memory(alloc);

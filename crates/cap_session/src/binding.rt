@@ -1,11 +1,11 @@
 //! Relocating the objects of a roster, and why one is refused.
 
-ghost use Rattle.std.specs.Prelude.{◌≡◌, ℕ, ◌<◌, ◌≤◌, [], length, drop, codes, All, IfOk, OnOk};
+ghost use Rattle.std.specs.Prelude.{◌≡◌, ℕ, ◌<◌, ◌≤◌, [], length, drop, All, IfOk, IfErr, OnOk};
 ghost use Rattle.cap_elf.specs.IsRead.{IsRead};
 ghost use Rattle.cap_scope.specs.Chosen.{object_at};
 ghost use Rattle.cap_reloc.specs.Wanted.{name_at};
 ghost use Rattle.cap_session.specs.Binding.{HasOwned, RelocatesFrom, Relocates, Rebinds, StaysBelow, Tells, hit_name as hit_name_in, memory_at, objects_in, pairs_for, pairs_from, path_in, reloc_cause, reloc_refusal, setting_with};
-ghost use Rattle.cap_session.specs.Refused.{ReadsCounted};
+ghost use Rattle.cap_session.specs.Refused.{NamesNoFile, ReadsCounted};
 ghost use Rattle.cap_session.specs.Roster.{IsRoster, records_in};
 
 use crate::refusal::{OpenCause, OpenRefusal};
@@ -28,6 +28,7 @@ impl Roster {
         ensures stays { StaysBelow from self.old self.new }
         ensures owned { OnOk result (All (HasOwned self.old) (drop from self.new.memories)) }
         ensures read { OnOk result (All IsRead (drop from (records_in self.old))) }
+        ensures starved { IfErr result NamesNoFile }
         ensures unread { (n : ℕ) → ReadsCounted n n result }
     {
         for i in from..self.len() {
@@ -46,6 +47,7 @@ impl Roster {
         ensures relocates { Relocates (pairs_for look_up.now.rule self.old.dir (objects_in self.old) look_up.now.start_count look_up.now.openings.items i) i self.old self.new result }
         ensures owned { OnOk result (HasOwned self.old (memory_at self.new i)) }
         ensures read { IsRead (object_at (records_in self.old) i) }
+        ensures starved { IfErr result NamesNoFile }
         ensures unread { (n : ℕ) → ReadsCounted n n result }
     {
         let symbolic = self.is_symbolic(i);
@@ -99,7 +101,8 @@ impl Roster {
     /// Why the relocation of an object refuses a call, with the object's path.
     fn open_refusal(&self, i: u32, refusal: RelocRefusal) -> OpenRefusal
         requires { i < length self.now.objects }
-        ensures { Tells (reloc_refusal self.now.dir (objects_in self.now) i refusal) refusal result }
+        ensures tells { Tells (reloc_refusal self.now.dir (objects_in self.now) i refusal) refusal result }
+        ensures starved { NamesNoFile result }
     {
         match self.path(i) {
             Ok(path) => self.refusal_at(path, i, refusal),
@@ -110,7 +113,8 @@ impl Roster {
     /// The same, where this is the path.
     fn refusal_at(&self, path: Name, i: u32, refusal: RelocRefusal) -> OpenRefusal
         requires { path ≡ path_in self.now.dir (objects_in self.now) i }
-        ensures { Tells (reloc_refusal self.now.dir (objects_in self.now) i refusal) refusal result }
+        ensures tells { Tells (reloc_refusal self.now.dir (objects_in self.now) i refusal) refusal result }
+        ensures starved { NamesNoFile result }
     {
         match self.cause(i, refusal) {
             Ok(OpenCause::NoMemory) | Err(NoMemory) => no_memory(self.alloc),

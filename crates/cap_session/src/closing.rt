@@ -1,10 +1,10 @@
 //! Loading all that the objects need.
 
-ghost use Rattle.std.specs.Prelude.{◌≡◌, ◌+◌, ◌<◌, ◌≤◌, ◌∷◌, ◌++◌, [], Some, None, find, length, map, take, IfOk, OnOk, OnErr, slice_index_or};
+ghost use Rattle.std.specs.Prelude.{◌≡◌, ◌+◌, ◌<◌, ◌∷◌, ◌++◌, [], Some, None, find, length, map, take, IfOk, IfErr, OnOk, OnErr, slice_index_or};
 ghost use Rattle.cap_session.specs.Closing.{AddsOne, Behind, Closes, LoadsAll, is_unanswered, needed_by};
 ghost use Rattle.cap_session.specs.Mappings.{IsName};
-ghost use Rattle.cap_session.specs.Refused.{ReadsCounted};
-ghost use Rattle.cap_session.specs.Roster.{DepsAnswer, IsClosed, IsRoster, answerer_in};
+ghost use Rattle.cap_session.specs.Refused.{NamesNoFile, ReadsCounted};
+ghost use Rattle.cap_session.specs.Roster.{IsClosed, IsRoster, answerer_in};
 
 use crate::adding::{path_of, refusal_at, text_of};
 use crate::refusal::OpenRefusal;
@@ -25,10 +25,12 @@ impl Roster {
         ensures closed { OnOk result (IsClosed self.new) }
         ensures sound { IsRoster self.new }
         ensures reads { ReadsCounted (F.read_faults files.old) (F.read_faults files.new) result }
+        ensures starved { IfErr result NamesNoFile }
         ensures told { F.told files.new ≡ F.told files.old }
         ensures writing { F.writing files.new ≡ F.writing files.old }
         ensures write_faults { F.write_faults files.new ≡ F.write_faults files.old }
     {
+        // What every roster has is promised with its length.
         let _ = self.len();
         self.load_one(files, name)?;
         self.close(files)
@@ -42,6 +44,7 @@ impl Roster {
         ensures closed { OnOk result (IsClosed self.new) }
         ensures sound { IsRoster self.new }
         ensures reads { ReadsCounted (F.read_faults files.old) (F.read_faults files.new) result }
+        ensures starved { IfErr result NamesNoFile }
         ensures told { F.told files.new ≡ F.told files.old }
         ensures writing { F.writing files.new ≡ F.writing files.old }
         ensures write_faults { F.write_faults files.new ≡ F.write_faults files.old }
@@ -64,6 +67,7 @@ impl Roster {
         ensures more { OnOk result (length self.new.deps ≡ length self.old.deps + 1) }
         ensures sound { IsRoster self.new }
         ensures reads { ReadsCounted (F.read_faults files.old) (F.read_faults files.new) result }
+        ensures starved { IfErr result NamesNoFile }
         ensures told { F.told files.new ≡ F.told files.old }
         ensures writing { F.writing files.new ≡ F.writing files.old }
         ensures write_faults { F.write_faults files.new ≡ F.write_faults files.old }
@@ -127,6 +131,7 @@ impl Roster {
         ensures behind { Behind self.old self.new }
         ensures sound { IsRoster self.new }
         ensures reads { ReadsCounted (F.read_faults files.old) (F.read_faults files.new) result }
+        ensures starved { IfErr result NamesNoFile }
         ensures told { F.told files.new ≡ F.told files.old }
         ensures writing { F.writing files.new ≡ F.writing files.old }
         ensures write_faults { F.write_faults files.new ≡ F.write_faults files.old }
@@ -155,6 +160,7 @@ impl Roster {
         ensures adds { AddsOne (F.told files.old) name.now self.old self.new result }
         ensures sound { IsRoster self.new }
         ensures reads { ReadsCounted (F.read_faults files.old) (F.read_faults files.new) result }
+        ensures starved { IfErr result NamesNoFile }
         ensures told { F.told files.new ≡ F.told files.old }
         ensures writing { F.writing files.new ≡ F.writing files.old }
         ensures write_faults { F.write_faults files.new ≡ F.write_faults files.old }

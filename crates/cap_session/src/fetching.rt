@@ -92,7 +92,8 @@ fn file_cause(refusal: FileRefusal) -> OpenCause
     }
 }
 
-/// Why an object was refused, as a cause of a session. Objects alone have no symbol without a definition.
+/// Why an object was refused, as a cause of a session. Neither the reader nor placing answers Unresolved; the arm is there
+/// because the type has it.
 pub(crate) fn refusal_cause(alloc: Global, refusal: Refusal) -> OpenCause
     ensures { result ≡ cause_of_refusal refusal }
 {

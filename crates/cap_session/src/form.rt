@@ -12,7 +12,7 @@ pub enum Form {
     Open,
     /// The library is opened for all objects that are loaded from then on.
     Global,
-    /// As `Open`, and a refusal is passed over.
+    /// As `Open`, and a refusal that the files decide is passed over.
     Try,
 }
 
@@ -27,7 +27,7 @@ impl Form {
         }
     }
 
-    /// Whether a refusal of the call is passed over.
+    /// Whether a refusal that the files decide is passed over. A read fault and want of memory never are.
     pub fn passes_over(self) -> bool
         ensures { result ≡ passes self }
     {

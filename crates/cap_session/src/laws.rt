@@ -1,6 +1,13 @@
-ghost use Rattle.cap_session.specs.Laws.{MappingsLieApart};
+ghost use Rattle.cap_session.specs.Exact.{InexactIsUnfit, NamesAreAnswered, StatesAreReached, StatesLieApart, StoresGiveRead};
 
-/// States what the definitions of a state say together. It computes nothing.
+/// States what holds of every state that a start and calls lead to, and of a refusal. It computes nothing.
 pub fn state_laws()
-    ensures { MappingsLieApart }
-{}
+    ensures read { StoresGiveRead }
+    ensures reached { StatesAreReached }
+    ensures answered { NamesAreAnswered }
+    ensures apart { StatesLieApart }
+    ensures unfit { InexactIsUnfit }
+{
+    cap_elf::read_laws();
+    cap_reloc::binding_laws();
+}

@@ -1,9 +1,9 @@
 //! A session of the run-time linker: a program, its libraries, and the libraries that are opened later.
 //!
-//! - A `Roster` has the loaded objects in load order, each with all that belongs to it. It loads an object and all that
-//!   are needed, breadth first, and relocates them from one on.
+//! - A `Roster` has the loaded objects in load order, each with all that belongs to it. It loads an object and all that it
+//!   needs, breadth first, and relocates all objects from a place on.
 //! - A `Session` is a roster, the libraries that were opened, and the rule by which names are looked up. `start` loads and
-//!   relocates the program; `open` does so for one library more, and enters whom its definitions reach.
+//!   relocates the program; `open` does so for one library more, and keeps the tree and the mode of each that was opened.
 //!
 //! What is hard is that a refusal, want of memory too, leaves a session exactly as it was. So a call takes what it needs
 //! in an order in which all that was done can be taken off again without memory: the objects last, their addresses with

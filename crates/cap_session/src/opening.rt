@@ -1,13 +1,13 @@
 //! Loading what a start or a call asks for, and relocating it.
 
-ghost use Rattle.std.specs.Prelude.{◌≡◌, ℕ, ◌++◌, ◌∷◌, ◌<◌, ◌≤◌, [], length, drop, All, IfSome, IfOk, OnOk, OnErr, List};
+ghost use Rattle.std.specs.Prelude.{◌≡◌, ℕ, ◌++◌, ◌∷◌, ◌<◌, ◌≤◌, [], length, drop, All, IfSome, IfOk, IfErr, OnOk, OnErr, List};
 ghost use Rattle.cap_elf.specs.IsRead.{IsRead};
 ghost use Rattle.cap_session.specs.Binding.{HasOwned, RelocatesFrom, StaysBelow, objects_in, pairs_from};
 ghost use Rattle.cap_session.specs.Entering.{opening_in, start_between, with_on_ok};
 ghost use Rattle.cap_session.specs.Kept.{StartsWith, session_with};
 ghost use Rattle.cap_session.specs.Loading.{Loaded, fetch_from, with_named};
 ghost use Rattle.cap_session.specs.Mappings.{IsName};
-ghost use Rattle.cap_session.specs.Refused.{ReadsCounted};
+ghost use Rattle.cap_session.specs.Refused.{NamesNoFile, ReadsCounted};
 ghost use Rattle.cap_session.specs.Roster.{Extends, IsClosed, IsRoster, Lists, Loads, empty_roster, records_in};
 ghost use Rattle.cap_session.specs.Session.{IsSession};
 ghost use Rattle.cap_session.specs.State.{started};
@@ -34,6 +34,7 @@ pub(crate) fn load_main<F: Files>(
     ensures dir { roster.new.dir ≡ roster.old.dir }
     ensures rule { IfOk result (λ look_up. look_up.rule ≡ rule) }
     ensures reads { ReadsCounted (F.read_faults files.old) (F.read_faults files.new) result }
+    ensures starved { IfErr result NamesNoFile }
     ensures told { F.told files.new ≡ F.told files.old }
     ensures writing { F.writing files.new ≡ F.writing files.old }
     ensures write_faults { F.write_faults files.new ≡ F.write_faults files.old }
@@ -64,6 +65,7 @@ pub(crate) fn load_named<F: Files>(
     ensures err { OnErr result (roster.new ≡ roster.old) }
     ensures sound { IsRoster roster.new }
     ensures reads { ReadsCounted (F.read_faults files.old) (F.read_faults files.new) result }
+    ensures starved { IfErr result NamesNoFile }
     ensures told { F.told files.new ≡ F.told files.old }
     ensures writing { F.writing files.new ≡ F.writing files.old }
     ensures write_faults { F.write_faults files.new ≡ F.write_faults files.old }
@@ -98,6 +100,7 @@ pub(crate) fn enter(
     ensures stays { StaysBelow before roster.old roster.new }
     ensures owned { OnOk result (All (HasOwned roster.old) (drop before roster.new.memories)) }
     ensures read { OnOk result (All IsRead (drop before (records_in roster.old))) }
+    ensures starved { IfErr result NamesNoFile }
     ensures unread { (n : ℕ) → ReadsCounted n n result }
 {
     let Ok(opened) = opening_of(roster, name, mode) else {
@@ -157,6 +160,7 @@ fn relocate_opened(
     ensures stays { StaysBelow before roster.old roster.new }
     ensures owned { OnOk result (All (HasOwned roster.old) (drop before roster.new.memories)) }
     ensures read { OnOk result (All IsRead (drop before (records_in roster.old))) }
+    ensures starved { IfErr result NamesNoFile }
     ensures unread { (n : ℕ) → ReadsCounted n n result }
 {
     if look_up.openings.push(opened).is_err() {

@@ -1,9 +1,9 @@
 //! The objects of a session in load order, each with all that belongs to it.
 
-ghost use Rattle.std.specs.Prelude.{◌≡◌, ℕ, ◌<◌, ◌≤◌, List, [], length, take, drop, All, IfSome, IfOk, OnOk, OnErr, slice_index_or, option_copied, nat_lt, bytes_eq, ◌&&◌, ◌||◌};
+ghost use Rattle.std.specs.Prelude.{◌≡◌, ◌<◌, ◌≤◌, List, [], length, take, drop, All, IfSome, IfOk, IfErr, OnOk, OnErr, slice_index_or, option_copied, nat_lt, bytes_eq, ◌&&◌, ◌||◌};
 ghost use Rattle.cap_session.specs.Loading.{Loaded, fetch_from, has_soname, is_answer, with_needed};
 ghost use Rattle.cap_session.specs.Mappings.{IsName};
-ghost use Rattle.cap_session.specs.Refused.{ReadsCounted};
+ghost use Rattle.cap_session.specs.Refused.{NamesNoFile, ReadsCounted};
 ghost use Rattle.cap_session.specs.Roster.{IsRoster, IsClosed, Lists, Loads, Extends, empty_roster, answerer_in, called_in, cut_to, no_called, pad_start};
 
 use crate::refusal::{OpenCause, OpenRefusal};
@@ -57,6 +57,7 @@ impl Roster {
         ensures err { OnErr result (self.new ≡ self.old) }
         ensures sound { IsRoster self.new }
         ensures reads { ReadsCounted (F.read_faults files.old) (F.read_faults files.new) result }
+        ensures starved { IfErr result NamesNoFile }
 
         // The store keeps its files and what is being written.
         ensures told { F.told files.new ≡ F.told files.old }

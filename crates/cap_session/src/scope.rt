@@ -1,6 +1,6 @@
 //! Libraries that were opened, and where the names of an object are looked up.
 
-ghost use Rattle.std.specs.Prelude.{◌≡◌, ◌++◌, ◌∷◌, [], ℕ, flat_map, filter, OnOk, IfOk, if◌then◌else◌};
+ghost use Rattle.std.specs.Prelude.{◌≡◌, ◌++◌, ◌∷◌, [], flat_map, filter, OnOk, IfOk, if◌then◌else◌};
 ghost use Rattle.cap_base.specs.Lists.{numbers_between};
 ghost use Rattle.cap_session.specs.Scope.{is_global_opening, reaches as reaches_object, scope_of as scope_list};
 

@@ -1,13 +1,16 @@
 //! A session: a start, and the libraries that are opened after it.
 
-ghost use Rattle.std.specs.Prelude.{◌≡◌, IfSome, IfOk, OnErr};
+ghost use Rattle.std.specs.Prelude.{◌≡◌, IfSome, IfOk, IfErr, OnErr};
+ghost use Rattle.cap_fits.specs.Fits.{DataLieApart};
 ghost use Rattle.cap_session.specs.Endings.{Opens, Starts};
+ghost use Rattle.cap_session.specs.Exact.{IsReached, IsUnfitCall, IsUnfitStart, placed_in};
 ghost use Rattle.cap_session.specs.Loading.{fetch_from};
 ghost use Rattle.cap_session.specs.Mappings.{IsName};
-ghost use Rattle.cap_session.specs.Refused.{ReadsCounted};
+ghost use Rattle.cap_session.specs.Refused.{NamesNoFile, ReadsCounted};
 ghost use Rattle.cap_session.specs.Session.{Grows, IsSession, StandsFor};
 ghost use Rattle.cap_session.specs.State.{State, opened, started};
 
+use crate::laws::state_laws;
 use crate::opening::{enter, load_main, load_named};
 use crate::refusal::{Mode, OpenRefusal, Ready};
 use crate::roster::{Roster, no_memory};
@@ -20,7 +23,6 @@ use std::marker::Model;
 
 /// A program and its libraries, in memory.
 pub struct Session {
-    alloc: Global,
     roster: Roster,
     look_up: LookUp,
     starts: Vec<u32>,
@@ -55,15 +57,19 @@ impl Session {
         // Where the store tells its files, the session stands for the state that they lead to, or the refusal is theirs.
         ensures state { IfSome (F.told files.old) (λ store. Starts (started (fetch_from store) dir.now main.now rule) result) }
         ensures session { IfOk result IsSession }
+        ensures apart { IfOk result (λ s. DataLieApart (placed_in s)) }
+        ensures unfit { IfErr result (λ refusal. IfSome (F.told files.old) (λ store. IsUnfitStart (fetch_from store) dir.now main.now rule refusal)) }
         ensures dir { IfOk result (λ s. s.dir ≡ dir.now) }
         ensures rule { IfOk result (λ s. s.rule ≡ rule) }
         ensures reads { ReadsCounted (F.read_faults files.old) (F.read_faults files.new) result }
+        ensures starved { IfErr result NamesNoFile }
 
         // The store keeps its files and what is being written.
         ensures told { F.told files.new ≡ F.told files.old }
         ensures writing { F.writing files.new ≡ F.writing files.old }
         ensures write_faults { F.write_faults files.new ≡ F.write_faults files.old }
     {
+        state_laws();
         let Ok(starts) = vec![in alloc; 0u32; 1] else {
             return Err(no_memory(alloc));
         };
@@ -72,7 +78,6 @@ impl Session {
         };
         match load_main(alloc, &mut roster, files, main, rule) {
             Ok(look_up) => Ok(Session {
-                alloc,
                 roster,
                 look_up,
                 starts,
@@ -99,15 +104,19 @@ impl Session {
         // From a session that stands for a state to one that stands for the state after this call.
         ensures state { (state : State) → StandsFor self.old state → IfSome (F.told files.old) (λ store. Opens (opened (fetch_from store) self.old.dir self.old.rule state name.now mode) self.new result) }
         ensures session { IsSession self.new }
+        ensures apart { DataLieApart (placed_in self.new) }
+        ensures unfit { (state : State) → StandsFor self.old state → IsReached state → IfErr result (λ refusal. IfSome (F.told files.old) (λ store. IsUnfitCall (fetch_from store) self.old.dir self.old.rule state name.now mode refusal)) }
         ensures ready { IfOk result (λ ready. Grows self.old self.new ready.new) }
         ensures err { OnErr result (self.new ≡ self.old) }
         ensures reads { ReadsCounted (F.read_faults files.old) (F.read_faults files.new) result }
+        ensures starved { IfErr result NamesNoFile }
 
         // The store keeps its files and what is being written.
         ensures told { F.told files.new ≡ F.told files.old }
         ensures writing { F.writing files.new ≡ F.writing files.old }
         ensures write_faults { F.write_faults files.new ≡ F.write_faults files.old }
     {
+        state_laws();
         let before = self.roster.len();
         load_named(&mut self.roster, files, name)?;
         match enter(
@@ -133,7 +142,6 @@ impl Session {
         ensures { result.items ≡ self.memories }
     {
         let Session {
-            alloc: _,
             roster,
             look_up: _,
             starts: _,

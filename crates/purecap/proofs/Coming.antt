@@ -1,12 +1,10 @@
 -- What `load` comes to, from what its steps give.
 use Rattle.std.proofs.Common.{◌≡◌, ℕ, Bool, true, List, [], ◌∷◌, ◌++◌, map, Option, Some, None, option_map, IfSome, Result, Ok, Err, refl, sym, ap, subst, ◌∙◌, inl, inr, append-nil, arith}
-use Rattle.std.specs.List.{zip}
 use Rattle.cap_base.specs.Outside.{Store}
 use Rattle.cap_mem.specs.Tagged.{TaggedMemory}
 use Rattle.cap_scope.specs.Candidates.{hash_table}
-use Rattle.cap_image.specs.Parts.{ImageObject, ImageParts}
-use Rattle.cap_image.specs.Writing.{image_of, image_bytes, object_of}
-use Rattle.cap_image.specs.declared.header.Version.TheVariants.{Two}
+use Rattle.cap_image.specs.Parts.{ImageParts}
+use Rattle.cap_image.specs.Writing.{image_of, image_bytes}
 use Rattle.cap_session.specs.declared.refusal.OpenCause.{OpenCause}
 use Rattle.cap_session.specs.declared.refusal.OpenCause.TheVariants.{NoFile, Malformed, Unsupported, Unresolved, Inexact, Full, Limit, ReadFault, NoMemory}
 use Rattle.cap_session.specs.declared.refusal.OpenRefusal.{OpenRefusal}
@@ -123,33 +121,16 @@ comes_ended outcome image disk out err failure ended untouched still =
     subst (λ (f : Failure). Comes outcome image disk out err [] (Err f)) (sym ended.is_failure)
     (comes_by outcome image disk out err ended.notes ended.refusal.path untouched still ended.refusal.cause ended.says ended.ends ended.counted)
 
--- the image of a session is that of the state for which it stands
-named : (symbols : List (List (List ℕ × Bool))) (xs ys : List (List ℕ × Bool)) (memories : List TaggedMemory) → map (λ (n : List ℕ × Bool). n.0) xs ≡ map (λ n. n.0) ys
-    → map (object_of symbols) (zip xs memories) ≡ map (object_of symbols) (zip ys memories)
-named symbols [] [] memories is = refl
-named symbols [] (y ∷ ys) memories is = cc
-named symbols (x ∷ xs) [] memories is = cc
-named symbols (x ∷ xs) (y ∷ ys) [] is = refl
-named symbols (x ∷ xs) (y ∷ ys) (m ∷ memories) is =
-    let same : x.0 ≡ y.0 = cc in
-    let rest : map (λ (n : List ℕ × Bool). n.0) xs ≡ map (λ n. n.0) ys = cc in
-    ap (λ (name : List ℕ). object_of symbols ((name, true), m) ∷ map (object_of symbols) (zip xs memories)) same
-    ∙ ap (λ (os : List ImageObject). object_of symbols ((y.0, true), m) ∷ os) (named symbols xs ys memories rest)
-
-names_of : (objects : List Loaded) → map (λ (n : List ℕ × Bool). n.0) (map (λ (o : Loaded). (o.name, true)) objects) ≡ map (λ o. o.name) objects
-names_of [] = refl
-names_of (o ∷ objects) = ap (λ (rest : List (List ℕ)). o.name ∷ rest) (names_of objects)
-
 symbols_of : (objects : List Loaded) → map (λ o. (hash_table o).names) (map records_of objects) ≡ map (λ o. (hash_table (records_of o)).names) objects
 symbols_of [] = refl
 symbols_of (o ∷ objects) = ap (λ (rest : List (List (List ℕ × Bool))). (hash_table (records_of o)).names ∷ rest) (symbols_of objects)
 
+-- the image of a session is that of the state for which it stands
 image_is : (s : SessionValue) (state : State) → IsSession s → StandsFor s state → image_of s.names s.symbols s.memories ≡ state_image state
 image_is s state is stands =
-    let names : map (λ (n : List ℕ × Bool). n.0) s.names ≡ map (λ n. n.0) (map (λ (o : Loaded). (o.name, true)) state.objects) = stands.names_are ∙ sym (names_of state.objects) in
     let symbols : s.symbols ≡ map (λ o. (hash_table (records_of o)).names) state.objects =
     is.roster.symbols_are ∙ ap (map (λ o. (hash_table o).names)) stands.objects_are ∙ symbols_of state.objects in
-    ap (λ (os : List ImageObject). record { version = Two; objects = os }) (named s.symbols s.names (map (λ (o : Loaded). (o.name, true)) state.objects) s.memories names)
+    ap (λ (names : List (List ℕ × Bool)). image_of names s.symbols s.memories) stands.names_are
     ∙ ap (λ (sy : List (List (List ℕ × Bool))). image_of (map (λ (o : Loaded). (o.name, true)) state.objects) sy s.memories) symbols
     ∙ ap (λ (ms : List TaggedMemory). image_of (map (λ (o : Loaded). (o.name, true)) state.objects) (map (λ o. (hash_table (records_of o)).names) state.objects) ms) stands.memories_are
 

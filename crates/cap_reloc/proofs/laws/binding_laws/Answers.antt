@@ -1,4 +1,4 @@
-use Rattle.cap_reloc.proofs.FromPlan.{sound_pairs, narrowed_pairs, slots_in}
+use Rattle.cap_reloc.proofs.FromPlan.{sound_pairs, narrowed_pairs, data_pairs, slots_in}
 use Rattle.cap_reloc.proofs.SoundPlan.{pairs_say}
 use Rattle.cap_reloc.proofs.laws.binding_laws.Goals as goal
 
@@ -13,3 +13,6 @@ returns-clause-inside c = λ roots setting pairs memory placed is memory_is. slo
 
 pub returns-clause-unfit : goal.returns-clause-unfit
 returns-clause-unfit c = λ roots setting refusal placed is. (pairs_say roots setting placed).err refusal is
+
+pub returns-clause-bounds : goal.returns-clause-bounds
+returns-clause-bounds c = λ roots setting pairs placed is. data_pairs roots setting pairs (sound_pairs roots setting pairs placed is)

@@ -1,5 +1,33 @@
-use Rattle.cap_session.proofs.Apart.{start-lies, call-lies}
+use Rattle.cap_session.proofs.Answered.{names-answered}
+use Rattle.cap_session.proofs.Apart.{state-apart}
+use Rattle.cap_session.proofs.Given.{store-gives}
+use Rattle.cap_session.proofs.Placed.{PairLaws}
+use Rattle.cap_session.proofs.Reached.{call-reached, run-reached, start-reached}
+use Rattle.cap_session.proofs.Unfit.{call-unfit, start-unfit}
+use Rattle.cap_session.specs.Loading.{fetch_from}
 use Rattle.cap_session.proofs.laws.state_laws.Goals as goal
 
-pub returns : goal.returns
-returns c = record { start = start-lies; call = call-lies }
+pub returns-clause-read : goal.returns-clause-read
+returns-clause-read c = store-gives c.read_laws.ensures.dyn
+
+pub returns-clause-reached : goal.returns-clause-reached
+returns-clause-reached c =
+    let said = c.binding_laws.ensures in
+    let laws : PairLaws = record { narrowed = said.narrowed; apart = said.apart; inside = said.inside; bounds = said.bounds; unfit = said.unfit } in
+    record {
+      start = start-reached laws;
+      call = call-reached laws;
+      run = λ store dir main rule calls state. run-reached laws (fetch_from store) dir main rule calls state (store-gives c.read_laws.ensures.dyn store);
+    }
+
+pub returns-clause-answered : goal.returns-clause-answered
+returns-clause-answered c = names-answered
+
+pub returns-clause-apart : goal.returns-clause-apart
+returns-clause-apart c = state-apart
+
+pub returns-clause-unfit : goal.returns-clause-unfit
+returns-clause-unfit c =
+    let said = c.binding_laws.ensures in
+    let laws : PairLaws = record { narrowed = said.narrowed; apart = said.apart; inside = said.inside; bounds = said.bounds; unfit = said.unfit } in
+    record { start = start-unfit laws; call = call-unfit laws }
