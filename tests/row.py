@@ -18,15 +18,18 @@ class Wrong(Exception):
 
 @dataclass
 class Holds:
-    """What a file holds at some places, and its length where that is stated."""
+    """What a file has at some places, and its length where that is stated."""
     places: dict[int, bytes] = field(default_factory=dict)
     length: int | None = None
 
-    def compare(self, name: str, found: bytes) -> None:
-        if self.length is not None and len(found) != self.length:
-            raise Wrong(f"{name} has {len(found)} bytes in place of {self.length}")
-        for at, wanted in self.places.items():
-            same_bytes(name, at, found[at:at + len(wanted)], wanted)
+    def compare(self, path: Path) -> None:
+        size = path.stat().st_size
+        if self.length is not None and size != self.length:
+            raise Wrong(f"{path.name} has {size} bytes in place of {self.length}")
+        with path.open("rb") as file:
+            for at, wanted in self.places.items():
+                file.seek(at)
+                same_bytes(path.name, at, file.read(len(wanted)), wanted)
 
 
 @dataclass
@@ -140,15 +143,10 @@ class Tester:
         if created != set(run.created):
             raise Wrong(f"created {sorted(created)} in place of {sorted(run.created)}")
         for file, wanted in run.created.items():
-            if isinstance(wanted, Holds) and not wanted.places:
-                if wanted.length != after[file][1]:
-                    raise Wrong(f"{file} has {after[file][1]} bytes in place of {wanted.length}")
-                continue
-            found = (folder / file).read_bytes()
             if isinstance(wanted, Holds):
-                wanted.compare(file, found)
+                wanted.compare(folder / file)
             else:
-                same_bytes(file, 0, found, wanted)
+                same_bytes(file, 0, (folder / file).read_bytes(), wanted)
 
 
 def shown(words: Words) -> str:
