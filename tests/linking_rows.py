@@ -1,8 +1,8 @@
-"""Rows of `link`: where parts stand in the linked file, and what its code and its descriptions of capabilities become."""
-from objects import (BRANCH, COMMON, FUNCTION, JAL, LOAD, READ, READ_CODE, READ_WRITE, RELRO, WEAK, Made, Relocation, Symbol, data,
-                     function, initial_calls, label, program_header, relocatable, shared, text, thing, u32, u64, zeros)
+"""Rows of `link`: where the parts of the linked file stand, and what code and capabilities become in it."""
+from objects import (BRANCH, COMMON, JAL, LOAD, READ, READ_CODE, READ_WRITE, RELRO, Made, Relocation, Symbol, data,
+                     function, label, program_header, relocatable, shared, text, thing, u32, u64, zeros)
 from row import Holds, Row, Run
-from users_case import NO_SYMBOL, NOP, exported, linked
+from users_case import NO_SYMBOL, exported, linked
 
 SIZES = {"a": 1, "b": 5001, "c": 100000}
 three = relocatable([data(bytes(size), f".data.{name}", 1) for name, size in SIZES.items()],
@@ -24,8 +24,7 @@ own_end_linked = linked(
      0x1FC: b"\0q\0"})
 OWN_END_REPORT = """\
 object 0x0000000040000000 0x0000000000003000 q
-cap 0x0000000040002000 base 0x0000000040002000 top 0x00000000040002010 cursor 0x0000000040002010 perms 007d flag 0 unsealed\
- owner 0 symbol -
+cap 0x0000000040002000 base 0x0000000040002000 top 0x00000000040002010 cursor 0x0000000040002010 perms 007d flag 0 unsealed owner 0 symbol -
 objects 1 words 1
 """
 
@@ -42,8 +41,8 @@ def jump(contents: bytes, at: int, kind: int, target: int) -> Made:
 
 
 def rounded_row(shows: str, start: int, end: int, rounded: int, alignment: int) -> Row:
-    """A library whose dynamic table of 112 bytes is at the start, and whose last part that is read-only after relocation
-    ends at the end. A caller gets a capability to its function: its bounds end where that is rounded."""
+    """A library whose dynamic table of 112 bytes is at the start, and whose data that is read-only after relocation ends
+    at the end. A caller gets a capability to its function: its bounds end at the rounded end."""
     whole = relocatable([text(bytes(start - 0x1000)), data(bytes(end - start - 112), ".data.rel.ro", 1)],
                         [function("f", ".text", 0, 4)])
     headers = (program_header(LOAD, READ_CODE, 0x1000, start - 0x1000, start - 0x1000, alignment)
@@ -51,8 +50,8 @@ def rounded_row(shows: str, start: int, end: int, rounded: int, alignment: int) 
                + program_header(LOAD, READ_WRITE, rounded, 0, 0, alignment))
     caller = shared([Symbol("f")], [Relocation(0x2000, "f")], needed=["whole"])
     report = (f"object 0x0000000040000000 0x0000000000004000 m\nobject 0x0000000040004000 {rounded:#018x} whole\n"
-              f"cap 0x0000000040002000 base 0x0000000040004000 top {0x40004000 + rounded:#019x} cursor 0x0000000040005000"
-              " perms 0017 flag 1 sentry owner 1 symbol f\nobjects 2 words 1\n")
+              f"cap 0x0000000040002000 base 0x0000000040004000 top {0x40004000 + rounded:#019x}"
+              " cursor 0x0000000040005000 perms 0017 flag 1 sentry owner 1 symbol f\nobjects 2 words 1\n")
     return Row(shows, {"whole.o": whole, "m": caller}, [
         Run("link -o whole --shared whole whole.o", created={"whole": Holds({
             64 + 56: headers, 64 + 5 * 56: program_header(RELRO, READ, start, rounded - start, rounded - start, 1)})}),
@@ -72,9 +71,9 @@ ROWS = [
         {"a.o": relocatable([], [thing("count", COMMON, 4, 4)]),
          "b.o": relocatable([zeros(4)], [thing("count", COMMON, 8, 8), thing("before", ".bss", 0, 4)])}, [
             Run("link -o app a.o b.o", created={"app": common})]),
-    rounded_row("code and what is read-only after relocation end at a length that is exact already", 0x3FD000, 0x3FE001, 0x3FF000, 4096),
-    rounded_row("the same, rounded up at the end of a page", 0x3FF000, 0x3FFFF1, 0x400000, 8192),
-    rounded_row("the same, rounded up to a length of the next exponent", 0x3FF000, 0x400001, 0x402000, 8192),
+    rounded_row("the range of code ends with a page, whose length is exact", 0x3FD000, 0x3FE001, 0x3FF000, 4096),
+    rounded_row("the range of code ends with a page, and asks for more alignment", 0x3FF000, 0x3FFFF1, 0x400000, 8192),
+    rounded_row("the range of code ends behind its page, where its length is exact", 0x3FF000, 0x400001, 0x402000, 8192),
     Row("a jump forward", {"o.o": jump(u32(0x6F) + bytes(16), 0, JAL, 16)}, [
         Run("link -o x o.o", created={"x": Holds({0x1000: u32(0x0100006F)})})]),
     Row("a branch backward", {"o.o": jump(bytes(4) + u32(0x63), 4, BRANCH, 0)}, [

@@ -1,16 +1,18 @@
 """Rows of `load`: what each slot holds, in which order objects are loaded, and which definition a name is bound to."""
-from objects import (ABSOLUTE, READ, READ_WRITE, WEAK, WORD_64, Made, Mapped, Relocation, Segment, Symbol, Word, data, function, image,
-                     laid, relocatable, shared, thing, u64, up)
+from objects import (COPY, THREE_SEGMENTS, ABSOLUTE, READ, READ_WRITE, WEAK, WORD_64, Made, Mapped, Relocation,
+                     Segment, Symbol, Word, data, image, relocatable, shared, thing, u64, up)
+from shared_object import FUNCTION_ENTRY, READ_ONLY_ENTRY, WRITABLE_ENTRY
 from row import Holds, Row, Run
 from users_case import FILES, LOADING, img, libh
 
-WRITABLE, READ_ONLY, FUNCTION_ENTRY = 0, 1 << 62, 1 << 63
+FIVE_PAGES = (Segment(0, 0x1000, READ), Segment(0x2000, 0x3000, READ_WRITE))
 
 
 def alone(shows: str, object: bytes, words: list[Word], plain: dict[int, bytes] | None = None) -> Row:
     """One object is loaded: its memory is its file, but for its words and the numbers in plain slots."""
     memory = Made(object.ljust(up(len(object), 4096), b"\0"), {}).but(plain or {})
-    return Row(shows, {"m": object}, [Run("load -o i m", created={"i": image([Mapped(0x40000000, "m", memory, words)])})])
+    made = image([Mapped(0x40000000, "m", memory, words)])
+    return Row(shows, {"m": object}, [Run("load -o i m", created={"i": made})])
 
 
 def refused(shows: str, object: bytes, status: int, line: str) -> Row:
@@ -22,8 +24,14 @@ def shown(shows: str, files: dict[str, bytes], calls: str, report: str) -> Row:
     return Row(shows, files, [Run(f"load -o i {calls}", created={"i": Holds()}), Run("show i", out=report)])
 
 
-def entry(*numbers: int) -> Made:
-    return shared(entries=[numbers], at={"entries": 0x200})
+def entries(*given: tuple[int, ...], segments: tuple[Segment, ...] = THREE_SEGMENTS) -> Made:
+    """An object with these entries: slot, target, offset, size and permissions of each. The first stands at 0x200."""
+    return shared(entries=list(given), segments=segments, at={"entries": 0x200})
+
+
+def records(*given: Relocation) -> Made:
+    """An object with these relocations by its symbol `d` of 32 bytes. The first stands at 0x300."""
+    return shared([thing("d", 1, 0x3000, 32)], list(given), at={"relocations": 0x300})
 
 
 def bounds(slot: int, base: int, size: int, owner: int, name: str) -> str:
@@ -40,12 +48,7 @@ def of_four_pages(*names: str) -> str:
 
 
 def large_symbol(address: int) -> Made:
-    return shared([thing("big", 1, address, 4096)], [Relocation(0x2000, "big")],
-                  segments=(Segment(0, 0x1000, READ), Segment(0x2000, 0x3000, READ_WRITE)))
-
-
-def with_addend(addend: int) -> Made:
-    return shared([thing("d", 1, 0x3000, 32)], [Relocation(0x2000, "d", addend)], at={"relocations": 0x300})
+    return shared([thing("big", 1, address, 4096)], [Relocation(0x2000, "big")], segments=FIVE_PAGES)
 
 
 def of_span(span: int) -> Made:
@@ -56,7 +59,12 @@ weak_and_strong = {
     "weak.o": relocatable([data(bytes(16))], [thing("f", ".data", 0, 16, WEAK)]),
     "strong.o": relocatable([data(bytes(16))], [thing("f", ".data", 0, 16)]),
     "m.o": relocatable([data(bytes(16))], [Symbol("f")], {".data": [Relocation(0, "f")]})}
-WEAK_AND_STRONG_OBJECTS = listed((0x40000000, 0x3000, "app"), (0x40003000, 0x3000, "weak.so"), (0x40006000, 0x3000, "strong.so"))
+
+
+def weak_and_strong_report(base: int, owner: int) -> str:
+    return (listed((0x40000000, 0x3000, "app"), (0x40003000, 0x3000, "weak.so"), (0x40006000, 0x3000, "strong.so"))
+            + bounds(0x40002000, base, 16, owner, "f") + "objects 3 words 1\n")
+
 
 shared_by_two = {"p": shared(needed=["x.so", "y.so"]), "x.so": shared(needed=["z.so"]), "y.so": shared(needed=["z.so"]),
                  "z.so": shared()}
@@ -73,15 +81,10 @@ good_and_bad = {"app": shared(), "lib/good.so": shared([thing("k", 1, 0x3000, 8)
 app_and_good = image([Mapped(0x40000000, "app", good_and_bad["app"], []),
                       Mapped(0x40004000, "good.so", good_and_bad["lib/good.so"], [])])
 
-one_slot_twice = shared(entries=[(0x2000, 0x3000, 0, 16, WRITABLE), (0x2000, 0x3000, 0, 16, WRITABLE)], at={"entries": 0x200})
-uneven_slot = shared(entries=[(0x3008, 0x3000, 0, 16, WRITABLE), (0x2000, 0x3000, 0, 16, WRITABLE)], at={"entries": 0x200})
-entry_and_record = shared([thing("d", 1, 0x3000, 32)], [Relocation(0x2000, "d")], [(0x2000, 0x3000, 0, 32, WRITABLE)],
+entry_and_record = shared([thing("d", 1, 0x3000, 32)], [Relocation(0x2000, "d")], [(0x2000, 0x3000, 0, 32, WRITABLE_ENTRY)],
                           at={"relocations": 0x300})
-second_half = shared([thing("d", 1, 0x3000, 32)], [Relocation(0x2000, "d"), Relocation(0x2008, "d", kind=WORD_64)],
-                     at={"relocations": 0x300})
-inexact_entry = shared(entries=[(0x2000, 0x3004, 0, 4096, WRITABLE)], at={"entries": 0x200},
-                       segments=(Segment(0, 0x1000, READ), Segment(0x2000, 0x3000, READ_WRITE)))
-absolute = shared([Symbol("w", binding=WEAK), thing("five", ABSOLUTE, 5, 0)], [Relocation(0x2000, "w"), Relocation(0x2010, "five")])
+absolute = shared([Symbol("w", binding=WEAK), thing("five", ABSOLUTE, 5, 0)],
+                  [Relocation(0x2000, "w"), Relocation(0x2010, "five")])
 
 LIBH_CHANGES = [
     ("cut to 63 bytes", libh[:63], 4, "malformed file header at 0x3f"),
@@ -102,40 +105,58 @@ def many_libraries(count: int) -> dict[str, bytes]:
 ROWS = [
     alone("a library without relocations is loaded as a program", libh, []),
     Row("a linked library makes an image of known size", {"libh.so": libh}, [
-        Run("load -o img libh.so", created={"img": Holds({0: image([Mapped(0x40000000, "libh.so", libh, [])])}, 12429)}),
+        Run("load -o img libh.so", created={
+            "img": Holds({0: image([Mapped(0x40000000, "libh.so", libh, [])])}, 12429)}),
         Run("show img", out="object 0x0000000040000000 0x0000000000003000 libh.so\nobjects 1 words 0\n")]),
 
-    alone("an entry gets the bounds of its interval and its cursor", entry(0x2000, 0x3000, 32, 32, WRITABLE),
+    alone("an entry gets the bounds of its interval and its cursor", entries((0x2000, 0x3000, 32, 32, WRITABLE_ENTRY)),
           [Word(0x40002000, 0x40003020, 0x007D00000409B004)]),
-    alone("an entry of a function is sealed", entry(0x2010, 0x1004, 0, 0, FUNCTION_ENTRY),
+    alone("an entry of a function is sealed", entries((0x2010, 0x1004, 0, 0, FUNCTION_ENTRY)),
           [Word(0x40002010, 0x40001004, 0x0017200008018005)]),
-    alone("an entry that is read only may not write", entry(0x2020, 0x100, 0, 16, READ_ONLY),
+    alone("an entry that is read only may not write", entries((0x2020, 0x100, 0, 16, READ_ONLY_ENTRY)),
           [Word(0x40002020, 0x40000100, 0x0015000004458104)]),
-    refused("an entry's cursor is behind its end", entry(0x2000, 0x3000, 33, 32, WRITABLE), 4, "m: malformed addend at 0x200"),
-    refused("an entry would write to what can't be written", entry(0x2000, 0x100, 0, 16, WRITABLE), 4,
-            "m: malformed capability permissions at 0x200"),
-    refused("an entry of a function has an offset", entry(0x2000, 0x1004, 1, 0, FUNCTION_ENTRY), 4,
+    refused("an entry's cursor is behind its end", entries((0x2000, 0x3000, 33, 32, WRITABLE_ENTRY)), 4,
             "m: malformed addend at 0x200"),
-    refused("an entry's permissions have an unknown bit", entry(0x2000, 0x3000, 0, 32, 1), 4,
+    refused("an entry would write to what can't be written", entries((0x2000, 0x100, 0, 16, WRITABLE_ENTRY)), 4,
             "m: malformed capability permissions at 0x200"),
-    refused("an entry's interval is in no segment", entry(0x2000, 0x3FF0, 0, 32, WRITABLE), 4,
+    refused("an entry of a function has an offset", entries((0x2000, 0x1004, 1, 0, FUNCTION_ENTRY)), 4,
+            "m: malformed addend at 0x200"),
+    refused("an entry's permissions have an unknown bit", entries((0x2000, 0x3000, 0, 32, 1)), 4,
+            "m: malformed capability permissions at 0x200"),
+    refused("an entry's interval is in no segment", entries((0x2000, 0x3FF0, 0, 32, WRITABLE_ENTRY)), 4,
             "m: malformed symbol interval at 0x200"),
-    refused("an entry's bounds can't be exact", inexact_entry, 7, "m: inexact - 0x40003004 0x1000"),
-    refused("two entries have one slot", one_slot_twice, 4, "m: malformed relocation slot at 0x228"),
-    refused("a slot isn't at a multiple of 16", uneven_slot, 4, "m: malformed relocation slot at 0x200"),
+    refused("an entry's bounds can't be exact",
+            entries((0x2000, 0x3004, 0, 4096, WRITABLE_ENTRY), segments=FIVE_PAGES), 7, "m: inexact - 0x40003004 0x1000"),
+    refused("two entries have one slot",
+            entries((0x2000, 0x3000, 0, 16, WRITABLE_ENTRY), (0x2000, 0x3000, 0, 16, WRITABLE_ENTRY)), 4,
+            "m: malformed relocation slot at 0x228"),
+    refused("an entry's slot isn't at a multiple of 16",
+            entries((0x3008, 0x3000, 0, 16, WRITABLE_ENTRY), (0x2000, 0x3000, 0, 16, WRITABLE_ENTRY)), 4,
+            "m: malformed relocation slot at 0x200"),
     refused("an entry and a relocation have one slot", entry_and_record, 4, "m: malformed relocation slot at 0x300"),
-    refused("a relocation's slot is the second half of another", second_half, 4, "m: malformed relocation slot at 0x318"),
 
-    alone("a capability points at the end of its symbol, and keeps its bounds", with_addend(32),
+    alone("a capability points at the end of its symbol, and keeps its bounds", records(Relocation(0x2000, "d", 32)),
           [Word(0x40002000, 0x40003020, 0x007D00000409B004, 0, "d")]),
-    refused("a capability would point behind the end of its symbol", with_addend(33), 4, "m: malformed addend at 0x300"),
+    refused("a capability would point behind the end of its symbol", records(Relocation(0x2000, "d", 33)), 4,
+            "m: malformed addend at 0x300"),
+    refused("a relocation that copies a definition", records(Relocation(0x2000, "d", kind=COPY)), 5,
+            "m: unsupported relocation kind at 0x300"),
+    refused("a slot in what can't be written", records(Relocation(0x800, "d")), 4, "m: malformed relocation slot at 0x300"),
+    refused("a slot that passes its segment", records(Relocation(0x4000 - 8, "d", kind=WORD_64), Relocation(0x4000, "d")), 4,
+            "m: malformed relocation slot at 0x318"),
+    refused("a slot that is the second half of another", records(Relocation(0x2000, "d"), Relocation(0x2008, "d", kind=WORD_64)),
+            4, "m: malformed relocation slot at 0x318"),
+    refused("a symbol that passes its segment",
+            shared([thing("d", 1, 0x3FF0, 32)], [Relocation(0x2000, "d")], at={"relocations": 0x300}), 4,
+            "m: malformed symbol interval at 0x300"),
     alone("a long symbol at a multiple of 8 has exact bounds", large_symbol(0x3008),
           [Word(0x40002000, 0x40003008, 0x007D00000003B00C, 0, "big")]),
-    refused("a long symbol that isn't at a multiple of 8 has none", large_symbol(0x3004), 7, "m: inexact big 0x40003004 0x1000"),
+    refused("a long symbol that isn't at a multiple of 8 has none", large_symbol(0x3004), 7,
+            "m: inexact big 0x40003004 0x1000"),
     alone("an undefined weak symbol is 0 and an absolute one its value, and neither has a tag", absolute, [],
           {0x2000: bytes(16), 0x2010: u64(5, 0)}),
     shown("slots without tag aren't shown", {"m": absolute}, "m", of_four_pages("m") + "objects 1 words 0\n"),
-    refused("an undefined symbol that isn't weak", shared([Symbol("g")], [Relocation(0x2000, "g")]), 6, "m: unresolved g"),
+    refused("an undefined symbol that isn't weak", asking, 6, "m: unresolved g"),
 
     Row("a program fills the whole address space", {"m": of_span(0x4000000)}, [
         Run("load -o i m", created={"i": Holds({0: b"PURECAPI", 16: u64(0x40000000, 0x4000000)},
@@ -147,9 +168,9 @@ ROWS = [
         Run("link -o strong.so --shared strong.so strong.o", created={"strong.so": Holds()}),
         Run("link -o app m.o weak.so strong.so", created={"app": Holds()}),
         Run("load -o i app", created={"i": Holds()}),
-        Run("show i", out=WEAK_AND_STRONG_OBJECTS + bounds(0x40002000, 0x40008000, 16, 2, "f") + "objects 3 words 1\n"),
+        Run("show i", out=weak_and_strong_report(0x40008000, 2)),
         Run("load -o i --first-found app", created={"i": Holds()}),
-        Run("show i", out=WEAK_AND_STRONG_OBJECTS + bounds(0x40002000, 0x40005000, 16, 1, "f") + "objects 3 words 1\n")]),
+        Run("show i", out=weak_and_strong_report(0x40005000, 1))]),
     shown("objects are loaded in breadth, and one that two need once", shared_by_two, "p",
           of_four_pages("p", "x.so", "y.so", "z.so") + "objects 4 words 0\n"),
     shown("objects that need each other are loaded once", in_a_circle, "p",
@@ -167,8 +188,8 @@ ROWS = [
         Run("load -o i -L lib app open:good.so open:bad.so", 6, err="lib/bad.so: unresolved gone")]),
     Row("a tried library that is refused leaves no trace but its line", good_and_bad, [
         Run("load -o i -L lib app open:good.so", created={"i": app_and_good}),
-        Run("load -o i -L lib app open:good.so try:bad.so", err="lib/bad.so: unresolved gone", created={"i": app_and_good}),
-        Run("load -o i -L lib app try:bad.so open:good.so", err="lib/bad.so: unresolved gone", created={"i": app_and_good})]),
+        *(Run("load -o i -L lib app " + calls, err="lib/bad.so: unresolved gone", created={"i": app_and_good})
+          for calls in ("open:good.so try:bad.so", "try:bad.so open:good.so"))]),
     Row("a tried library isn't there", FILES, [
         Run("load -o img -L lib app try:gone.so open:libp.so", err="lib/gone.so: no such file", created={"img": img})]),
 

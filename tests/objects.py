@@ -17,7 +17,7 @@ PROGBITS, SYMTAB, STRTAB, RELA, NOBITS, INIT_ARRAY = 1, 2, 3, 4, 8, 14
 WRITABLE, ALLOCATED, EXECUTABLE = 1, 2, 4
 READ, READ_CODE, READ_WRITE = 4, 5, 6
 LOAD, DYNAMIC, RELRO = 1, 2, 0x6474E552
-WORD_64, JUMP_SLOT = 2, 5
+WORD_64, COPY, JUMP_SLOT = 2, 4, 5
 BRANCH, JAL, PCREL_HIGH, PCREL_LOW, ALIGN = 16, 17, 23, 24, 43
 TABLE_HIGH, CALL = 192, 198
 RISC_V, PURE_CAPABILITY = 243, 0x30000
@@ -156,8 +156,11 @@ def symbol_bytes(name_at: int, symbol: Symbol, section: int) -> bytes:
 
 def relocation_bytes(relocations: list[Relocation], symbols: list[Symbol]) -> bytes:
     numbers = {symbol.name: number for number, symbol in reversed(list(enumerate(symbols, 1)))}
-    return b"".join(u64(r.offset, (r.symbol if isinstance(r.symbol, int) else numbers[r.symbol]) << 32 | r.kind, r.addend)
-                    for r in relocations)
+
+    def number(symbol: str | int) -> int:
+        return symbol if isinstance(symbol, int) else numbers[symbol]
+
+    return b"".join(u64(r.offset, number(r.symbol) << 32 | r.kind, r.addend) for r in relocations)
 
 
 def file_header(kind: int, program_headers: int, sections: int, sections_at: int) -> bytes:
@@ -166,11 +169,11 @@ def file_header(kind: int, program_headers: int, sections: int, sections_at: int
         56 if program_headers else 0, program_headers, 64, sections, max(sections - 1, 0))
 
 
-def relocatable(sections: list[Section], symbols: list[Symbol] = (), relocations: dict[str, list[Relocation]] | None = None,
-                symbols_at: int | None = None) -> Made:
+def relocatable(sections: list[Section], symbols: list[Symbol] = (),
+                relocations: dict[str, list[Relocation]] | None = None, symbols_at: int | None = None) -> Made:
     """A relocatable object: the header, the sections, a relocation section for each section that has some, symbols and
-    names, and the section headers. The offsets: `header NAME`, `contents NAME` and `records NAME` (its relocations) of a
-    section, `symbol NAME` of a symbol."""
+    names, and the section headers. The offsets: `header NAME`, `contents NAME` and `records NAME` (its relocations) of
+    a section, `symbol NAME` of a symbol."""
     relocations = relocations or {}
     numbers = {section.name: number for number, section in enumerate(sections, 1)}
     names, section_names = Strings(), Strings()
@@ -229,9 +232,9 @@ def shared(symbols: list[Symbol] = (), relocations: list[Relocation] = (), entri
            needed: list[str] = (), soname: str | None = None, segments: tuple[Segment, ...] = THREE_SEGMENTS,
            words: list[int] | None = None, at: dict[str, int] | None = None) -> Made:
     """A shared object whose tables stand in its first segment, behind the headers, each at the next multiple of 8 or
-    where `at` has it: `symbols`, `hash`, `names`, `relocations`, `entries`, `dynamic`. An entry of `__cap_relocs` is its
-    five numbers; `words` stand in the place of the right hash table. Symbols have addresses as values, and their section
-    is a number."""
+    where `at` has it: `symbols`, `hash`, `names`, `relocations`, `entries`, `dynamic`. An entry of `__cap_relocs` is
+    its five numbers; `words` stand in the place of the right hash table. Symbols have addresses as values, and their
+    section is a number."""
     names = Strings()
     table = bytes(24) + b"".join(symbol_bytes(names.place(s.name), s, s.section) for s in symbols)
     tags: list[tuple[int, int | str]] = [(1, names.place(name)) for name in needed]

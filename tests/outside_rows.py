@@ -27,20 +27,23 @@ ROWS = [
     Row("a library that can't be read ends the load, also where it is only tried", {"m": app, "lib/x.so/": folder}, [
         Run("load -o i -L lib m open:x.so", 10, err="lib/x.so: read fault"),
         Run("load -o i -L lib m try:gone.so try:x.so", 10, err="lib/gone.so: no such file\nlib/x.so: read fault")]),
-    Row("an input that can't be read", {"h.o": h_o, "p.o/": folder}, [Run("link -o out h.o p.o", 10, err="p.o: read fault")]),
+    Row("an input that can't be read", {"h.o": h_o, "p.o/": folder}, [
+        Run("link -o out h.o p.o", 10, err="p.o: read fault")]),
     Row("an image that can't be created", {"m": app, "there/": folder}, [
         Run("load -o gone/i m", 11, err="gone/i: write fault"), Run("load -o there m", 11, err="there: write fault")]),
-    Row("a linked file that can't be created", {"h.o": h_o}, [Run("link -o gone/out h.o", 11, err="gone/out: write fault")]),
+    Row("a linked file that can't be created", {"h.o": h_o}, [
+        Run("link -o gone/out h.o", 11, err="gone/out: write fault")]),
     Row("an image whose second part can't be written", {"m": wide}, [
         Run("load -o i m", created={"i": wide_image}),
         Run("load -o j m", 11, err="j: write fault", created={"j": wide_image[:65536]}, longest_file=65536)]),
-    Row("a linked file that can't be written", {"h.o": h_o}, [Run("link -o /dev/full h.o", 11, err="/dev/full: write fault")]),
+    Row("a linked file that can't be written", {"h.o": h_o}, [
+        Run("link -o /dev/full h.o", 11, err="/dev/full: write fault")]),
     Row("a report that can't be written", {"i": img}, [Run("show i", 11, err="-: write fault", stdout="/dev/full")]),
 
     Row("each call of the system fails in turn", FILES, FAILING),
     Row("the end of an image can't be read", {"i": image([])}, [
         Run("show i", 10, err="i: read fault", failing_call=call) for call in (1, 2, 3)]),
     Row("reads and writes of a byte each, and of seven", FILES, [
-        run for most in (1, 7)
-        for run in (Run(LOADING, created={"img": img}, shortest_calls=most), Run("show img", out=REPORT, shortest_calls=most))]),
+        run for most in (1, 7) for run in (Run(LOADING, created={"img": img}, shortest_calls=most),
+                                           Run("show img", out=REPORT, shortest_calls=most))]),
 ]

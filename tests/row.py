@@ -130,8 +130,8 @@ class Tester:
         if run.is_interposed:
             environment |= {"LD_PRELOAD": str(self.interposed), "FAILING_CALL": str(run.failing_call or 0),
                             "SHORTEST_CALLS": str(run.shortest_calls or 0)}
-        ended = subprocess.run([self.program, *words], cwd=folder, env=environment, stdin=subprocess.DEVNULL, stdout=stdout,
-                               stderr=subprocess.PIPE, timeout=120, restore_signals=False,
+        ended = subprocess.run([self.program, *words], cwd=folder, env=environment, stdin=subprocess.DEVNULL,
+                               stdout=stdout, stderr=subprocess.PIPE, timeout=120, restore_signals=False,
                                preexec_fn=limit_files(run.longest_file) if run.longest_file else None)
         if ended.returncode != run.status:
             raise Wrong(f"status {ended.returncode} in place of {run.status}, {ended.stderr.decode('latin-1')!r}")

@@ -3,20 +3,22 @@ from objects import Mapped, image, shared
 from row import Holds, Row, Run
 from users_case import h_o
 
-FILES = {"m": shared(), "x.so": shared(), "i": image([Mapped(0x40000000, "m", bytes(4096), [])]), "-i": image([]), "a.o": h_o}
+FILES = {"m": shared(), "x.so": shared(), "a.o": h_o,
+         "i": image([Mapped(0x40000000, "m", bytes(4096), [])]), "-i": image([])}
 REPORT = "object 0x0000000040000000 0x0000000000001000 m\nobjects 1 words 0\n"
 
 USAGE = [
-    "", "show", "show i i", "show -i", "show --help", "show -h", "show i -- --", "frob", "help", "--help", "-h", "load m", "load -o out",
-    "load -o= m", "load -o out -o out m", "load -o -- m", "load -o out -L= m", "load -o out -L", "load -o out -L . -L . m",
-    "load open:x.so m -o out", "load -o out m x.so", "load -o out m OPEN:x.so", "load -o out m open:", "load -o out m global:a/b",
-    "load -o out m close:x.so", "load -o out m lazy:x.so", "load -o out --first-found --first-found m",
-    "load -o out --first-found=true m", "load -o out --first m", "link -o out", "link a.o", "link -o out --shared= a.o",
-    "link -o out --shared a/b a.o", "link -o out a.o --shared", "link -o out --share s a.o", "link -o out -s s a.o"]
+    "", "show", "show i i", "show -i", "show --help", "show -h", "show i -- --", "frob", "help", "--help", "-h",
+    "load m", "load -o out", "load -o= m", "load -o out -o out m", "load -o -- m", "load -o out -L= m",
+    "load -o out -L", "load -o out -L . -L . m", "load open:x.so m -o out", "load -o out m x.so",
+    "load -o out m OPEN:x.so", "load -o out m open:", "load -o out m global:a/b", "load -o out m close:x.so",
+    "load -o out m lazy:x.so", "load -o out --first-found --first-found m", "load -o out --first-found=true m",
+    "load -o out --first m", "link -o out", "link a.o", "link -o out --shared= a.o", "link -o out --shared a/b a.o",
+    "link -o out a.o --shared", "link -o out --share s a.o", "link -o out -s s a.o"]
 LOADED = [
     "load m -o out", "load -oout m", "load -o=out m", "load -o out m -L .", "load -o out -L. m", "load -o out -L=. m",
-    "load -o out m open:x.so", "load m open:x.so -o out global:x.so", "load -o out -- m open:x.so", "load -o out m try:x.so",
-    "load --first-found -o out m", "load -o out m --first-found"]
+    "load -o out m open:x.so", "load m open:x.so -o out global:x.so", "load -o out -- m open:x.so",
+    "load -o out m try:x.so", "load --first-found -o out m", "load -o out m --first-found"]
 LINKED = ["link -o out a.o", "link a.o -o out", "link -o out --shared s a.o", "link -o out --shared=s a.o"]
 SHOWN = [("show i", REPORT), ("show i --", REPORT), ("show ./i", REPORT), ("show -- -i", "objects 0 words 0\n")]
 LONG = "p" * 256
@@ -46,7 +48,8 @@ LIMITS: list[tuple[str, list[str], int, str]] = [
     ("257 inputs", ["link", "-o", "out", *["gone"] * 257], 9, "limit calls or inputs"),
     ("256 inputs", ["link", "-o", "out", *["gone"] * 256], 3, "gone: no such file"),
     ("a path of 256 bytes and 65 calls", ["load", "-o", "out", LONG, *["open:x.so"] * 65], 9, "limit path or name"),
-    ("a false word, a path of 256 bytes and 65 calls", ["load", "-o", "out", LONG, *["open:x.so"] * 65, "shut:x.so"], 2, "usage"),
+    ("a false word, a path of 256 bytes and 65 calls",
+     ["load", "-o", "out", LONG, *["open:x.so"] * 65, "shut:x.so"], 2, "usage"),
 ]
 
 
