@@ -1,6 +1,7 @@
 """Rows of `link`: where the parts of the linked file stand, and what code and capabilities become in it."""
-from objects import (BRANCH, COMMON, JAL, LOAD, READ, READ_CODE, READ_WRITE, RELRO, Made, Relocation, Symbol, data,
-                     function, label, program_header, relocatable, shared, text, thing, u32, u64, zeros)
+from objects import (ENTRIES, ENTRIES_SIZE, HASH, STRINGS, STRINGS_SIZE, SYMBOLS, SYMBOL_SIZE, BRANCH, COMMON, JAL,
+                     LOAD, READ, READ_CODE, READ_WRITE, RELRO, Made, Relocation, Symbol, data, function, label,
+                     program_header, relocatable, shared, text, thing, u32, u64, zeros)
 from row import Holds, Row, Run
 from users_case import NO_SYMBOL, exported, linked
 
@@ -9,7 +10,7 @@ three = relocatable([data(bytes(size), f".data.{name}", 1) for name, size in SIZ
                     [thing(name, f".data.{name}", 0, size) for name, size in SIZES.items()])
 three_linked = linked(
     0x217, (0x1000, 0x1000), (0x1000, 0x2000), (0x2000, 0x1BB00, 0x1BB00),
-    [4, 0x1F0, 5, 0x210, 6, 0x190, 10, 7, 11, 24],
+    {HASH: 0x1F0, STRINGS: 0x210, SYMBOLS: 0x190, STRINGS_SIZE: 7, SYMBOL_SIZE: 24},
     {0x190: NO_SYMBOL + exported(1, 0x2000, 1) + exported(3, 0x2008, 5008) + exported(5, 0x3400, 100096),
      0x1F0: u32(2, 4, 2, 3, 0, 0, 0, 1),
      0x210: b"\0a\0b\0c\0"})
@@ -17,7 +18,7 @@ three_linked = linked(
 own_end = relocatable([data(bytes(16))], [thing("q", ".data", 0, 16)], {".data": [Relocation(0, "q", 16)]})
 own_end_linked = linked(
     0x1FF, (0x1000, 0x1000), (0x1000, 0x2000), (0x2000, 0x2010, 0x2010),
-    [4, 0x1E8, 5, 0x1FC, 6, 0x190, 10, 3, 11, 24, 0x7000C000, 0x1C0, 0x7000C001, 40],
+    {HASH: 0x1E8, STRINGS: 0x1FC, SYMBOLS: 0x190, STRINGS_SIZE: 3, SYMBOL_SIZE: 24, ENTRIES: 0x1C0, ENTRIES_SIZE: 40},
     {0x190: NO_SYMBOL + exported(1, 0x2000, 16),
      0x1C0: u64(0x2000, 0x2000, 16, 16, 0),
      0x1E8: u32(1, 2, 1, 0, 0),
@@ -30,7 +31,7 @@ objects 1 words 1
 
 common = linked(
     0x1FE, (0x1000, 0x1000), (0x1000, 0x2000), (0x2000, 0x2000, 0x2010),
-    [4, 0x1D8, 5, 0x1F0, 6, 0x190, 10, 14, 11, 24],
+    {HASH: 0x1D8, STRINGS: 0x1F0, SYMBOLS: 0x190, STRINGS_SIZE: 14, SYMBOL_SIZE: 24},
     {0x190: NO_SYMBOL + exported(1, 0x2008, 8) + exported(7, 0x2000, 4),
      0x1D8: u32(1, 3, 2, 0, 0, 1),
      0x1F0: b"\0count\0before\0"})
@@ -41,8 +42,8 @@ def jump(contents: bytes, at: int, kind: int, target: int) -> Made:
 
 
 def rounded_row(shows: str, start: int, end: int, rounded: int, alignment: int) -> Row:
-    """A library whose dynamic table of 112 bytes is at the start, and whose data that is read-only after relocation ends
-    at the end. A caller gets a capability to its function: its bounds end at the rounded end."""
+    """A library whose dynamic table of 112 bytes is at the start, and whose data that is read-only after relocation
+    ends at the end. A caller gets a capability to its function: its bounds end at the rounded end."""
     whole = relocatable([text(bytes(start - 0x1000)), data(bytes(end - start - 112), ".data.rel.ro", 1)],
                         [function("f", ".text", 0, 4)])
     headers = (program_header(LOAD, READ_CODE, 0x1000, start - 0x1000, start - 0x1000, alignment)
@@ -73,7 +74,8 @@ ROWS = [
             Run("link -o app a.o b.o", created={"app": common})]),
     rounded_row("the range of code ends with a page, whose length is exact", 0x3FD000, 0x3FE001, 0x3FF000, 4096),
     rounded_row("the range of code ends with a page, and asks for more alignment", 0x3FF000, 0x3FFFF1, 0x400000, 8192),
-    rounded_row("the range of code ends behind its page, where its length is exact", 0x3FF000, 0x400001, 0x402000, 8192),
+    rounded_row("the range of code ends behind its page, where its length is exact", 0x3FF000, 0x400001, 0x402000,
+                8192),
     Row("a jump forward", {"o.o": jump(u32(0x6F) + bytes(16), 0, JAL, 16)}, [
         Run("link -o x o.o", created={"x": Holds({0x1000: u32(0x0100006F)})})]),
     Row("a branch backward", {"o.o": jump(bytes(4) + u32(0x63), 4, BRANCH, 0)}, [

@@ -81,8 +81,8 @@ good_and_bad = {"app": shared(), "lib/good.so": shared([thing("k", 1, 0x3000, 8)
 app_and_good = image([Mapped(0x40000000, "app", good_and_bad["app"], []),
                       Mapped(0x40004000, "good.so", good_and_bad["lib/good.so"], [])])
 
-entry_and_record = shared([thing("d", 1, 0x3000, 32)], [Relocation(0x2000, "d")], [(0x2000, 0x3000, 0, 32, WRITABLE_ENTRY)],
-                          at={"relocations": 0x300})
+entry_and_record = shared([thing("d", 1, 0x3000, 32)], [Relocation(0x2000, "d")],
+                          [(0x2000, 0x3000, 0, 32, WRITABLE_ENTRY)], at={"relocations": 0x300})
 absolute = shared([Symbol("w", binding=WEAK), thing("five", ABSOLUTE, 5, 0)],
                   [Relocation(0x2000, "w"), Relocation(0x2010, "five")])
 
@@ -126,7 +126,8 @@ ROWS = [
     refused("an entry's interval is in no segment", entries((0x2000, 0x3FF0, 0, 32, WRITABLE_ENTRY)), 4,
             "m: malformed symbol interval at 0x200"),
     refused("an entry's bounds can't be exact",
-            entries((0x2000, 0x3004, 0, 4096, WRITABLE_ENTRY), segments=FIVE_PAGES), 7, "m: inexact - 0x40003004 0x1000"),
+            entries((0x2000, 0x3004, 0, 4096, WRITABLE_ENTRY), segments=FIVE_PAGES), 7,
+            "m: inexact - 0x40003004 0x1000"),
     refused("two entries have one slot",
             entries((0x2000, 0x3000, 0, 16, WRITABLE_ENTRY), (0x2000, 0x3000, 0, 16, WRITABLE_ENTRY)), 4,
             "m: malformed relocation slot at 0x228"),
@@ -141,11 +142,16 @@ ROWS = [
             "m: malformed addend at 0x300"),
     refused("a relocation that copies a definition", records(Relocation(0x2000, "d", kind=COPY)), 5,
             "m: unsupported relocation kind at 0x300"),
-    refused("a slot in what can't be written", records(Relocation(0x800, "d")), 4, "m: malformed relocation slot at 0x300"),
-    refused("a slot that passes its segment", records(Relocation(0x4000 - 8, "d", kind=WORD_64), Relocation(0x4000, "d")), 4,
+    refused("a slot in what can't be written", records(Relocation(0x800, "d")), 4,
+            "m: malformed relocation slot at 0x300"),
+    refused("a slot behind the last segment",
+            records(Relocation(0x4000 - 8, "d", kind=WORD_64), Relocation(0x4000, "d")), 4,
             "m: malformed relocation slot at 0x318"),
-    refused("a slot that is the second half of another", records(Relocation(0x2000, "d"), Relocation(0x2008, "d", kind=WORD_64)),
-            4, "m: malformed relocation slot at 0x318"),
+    refused("a slot that is the second half of another",
+            records(Relocation(0x2000, "d"), Relocation(0x2008, "d", kind=WORD_64)), 4,
+            "m: malformed relocation slot at 0x318"),
+    refused("two relocations have one slot", records(Relocation(0x2000, "d"), Relocation(0x2000, "d")), 4,
+            "m: malformed relocation slot at 0x318"),
     refused("a symbol that passes its segment",
             shared([thing("d", 1, 0x3FF0, 32)], [Relocation(0x2000, "d")], at={"relocations": 0x300}), 4,
             "m: malformed symbol interval at 0x300"),

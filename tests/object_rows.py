@@ -4,8 +4,9 @@ import struct
 
 from objects import (ALIGN, ALLOCATED, BRANCH, CAPABILITY, COMMON, FUNCTION, INIT_ARRAY, JAL, LOCAL, NOTYPE, OBJECT,
                      PCREL_HIGH, PCREL_LOW, SECTION, SYMTAB, WORD_64, Made, Relocation, Section, Sparse, Symbol, data,
-                     function, initial_calls, label, relocatable, shared, text, thing, u16, u32, u64, zeros)
+                     function, initial_calls, label, relocatable, shared, text, thing, u16, u32, u64, up, zeros)
 from row import Holds, Row, Run
+from users_case import NOP
 
 good = relocatable(
     [text(u32(0x6F) * 8), data(bytes(64)), zeros(32), initial_calls(bytes(16)), Section(".debug", bytes(8))],
@@ -18,7 +19,6 @@ at = good.at
 SECTIONS = [".text", ".data", ".bss", ".init_array", ".debug", ".rela.text", ".rela.data", ".symtab", ".strtab",
             ".shstrtab"]
 NUMBER = {name: number for number, name in enumerate(SECTIONS, 1)}
-HEADERS_AT = at["header .text"] - 64
 
 
 def header(section: str, field: str) -> int:
@@ -115,11 +115,11 @@ CASES: list[tuple[str, dict[int, bytes], str, str, int]] = [
     ("a common symbol at multiples of 131072", {symbol("c", "value"): u64(1 << 17)}, M, "common symbol", SYMBOL["c"]),
     ("a function in data", {symbol("d", "info"): info(FUNCTION)}, U, "symbol place", SYMBOL["d"]),
     ("data in code", {symbol("f", "info"): info(OBJECT)}, U, "symbol place", SYMBOL["f"]),
-    ("data among the initial calls", {symbol("d", "section"): u16(NUMBER[".init_array"]), symbol("d", "size"): u64(16)}, U,
-     "symbol place", SYMBOL["d"]),
+    ("data among the initial calls",
+     {symbol("d", "section"): u16(NUMBER[".init_array"]), symbol("d", "size"): u64(16)}, U, "symbol place", SYMBOL["d"]),
     ("bytes with a size among the initial calls",
-     {symbol("d", "section"): u16(NUMBER[".init_array"]), symbol("d", "size"): u64(16), symbol("d", "info"): info(NOTYPE)},
-     U, "symbol place", SYMBOL["d"]),
+     {symbol("d", "section"): u16(NUMBER[".init_array"]), symbol("d", "size"): u64(16),
+      symbol("d", "info"): info(NOTYPE)}, U, "symbol place", SYMBOL["d"]),
     ("a global symbol in a section that isn't loaded",
      {symbol("d", "section"): u16(NUMBER[".debug"]), symbol("d", "size"): u64(8)}, U, "symbol place", SYMBOL["d"]),
 
@@ -176,7 +176,6 @@ def first_definition(symbols_at: int | None = None, before: list[Symbol] = ()) -
     return relocatable([text(NOP)], [*before, function("f", ".text", 0, 4)], symbols_at=symbols_at)
 
 
-NOP = u32(0x13)
 priority = relocatable([Section(".init_array.5", bytes(16), ALLOCATED | 1, 16, INIT_ARRAY)])
 overlapping = relocatable([data(bytes(32))], [thing("first", ".data", 0, 16), thing("second", ".data", 8, 16)])
 later_overlap = relocatable(
@@ -196,23 +195,18 @@ long_name = relocatable([], [Symbol("n" * 256)])
 asking = relocatable([data(bytes(16))], [Symbol("gone")], {".data": [Relocation(0, "gone")]})
 
 
-def many(relocations: bool) -> Sparse:
-    """One symbol or relocation more than there may be, all of them zeros; or so many relocations."""
-    count = (1 << 20) + 1
+def too_many(table: str) -> Sparse:
+    """An object with one record more in this table than there may be, all of them zeros."""
     made = relocatable([data(bytes(16))], [], {".data": []})
-    table, start = ".rela.data" if relocations else ".symtab", up_to_page(len(made))
-    front = made.but({made.at["header " + table] + 24: u64(start), made.at["header " + table] + 32: u64(24 * count)})
-    return Sparse(front, start + 24 * count)
-
-
-def up_to_page(length: int) -> int:
-    return (length + 4095) // 4096 * 4096
+    start, size = up(len(made), 4096), 24 * ((1 << 20) + 1)
+    at_header = made.at["header " + table]
+    return Sparse(made.but({at_header + 24: u64(start), at_header + 32: u64(size)}), start + size)
 
 
 ROWS = [
-    *(refused("" + name, {"o.o": good.but(changes)}, 4 if kind == M else 5, f"o.o: {kind} {line} at {offset:#x}")
+    *(refused(name, {"o.o": good.but(changes)}, 4 if kind == M else 5, f"o.o: {kind} {line} at {offset:#x}")
       for name, changes, kind, line, offset in CASES),
-    *(refused("" + name, {"o.o": good.but(changes)}, 9, f"limit {line}") for name, changes, line in LIMITS),
+    *(refused(name, {"o.o": good.but(changes)}, 9, f"limit {line}") for name, changes, line in LIMITS),
     Row("link: the object of these cases is good", {"o.o": good}, [Run("link -o out o.o", created={"out": Holds()})]),
 
     refused("an empty file", {"o.o": b""}, 4, "o.o: malformed file header at 0x0"),
@@ -220,8 +214,8 @@ ROWS = [
     refused("initial calls with a priority", {"o.o": priority}, 5,
             f"o.o: unsupported section flags at {priority.at['header .init_array.5']:#x}"),
     refused("a symbol's name of 256 bytes", {"o.o": long_name}, 9, "limit name"),
-    refused("more than 2^20 symbols", {"o.o": many(False)}, 9, "limit symbols"),
-    refused("more than 2^20 relocations", {"o.o": many(True)}, 9, "limit relocations"),
+    refused("more than 2^20 symbols", {"o.o": too_many(".symtab")}, 9, "limit symbols"),
+    refused("more than 2^20 relocations", {"o.o": too_many(".rela.data")}, 9, "limit relocations"),
     refused("an object of more than 2^26 bytes", {"o.o": Sparse(good, LONG + 1)}, 9, "limit file size"),
     refused("inputs of more than 2^27 bytes",
             {"o.o": Sparse(good, LONG), "p.o": Sparse(good, LONG), "q.o": b"x"}, 9, "limit input size",

@@ -17,6 +17,8 @@ PROGBITS, SYMTAB, STRTAB, RELA, NOBITS, INIT_ARRAY = 1, 2, 3, 4, 8, 14
 WRITABLE, ALLOCATED, EXECUTABLE = 1, 2, 4
 READ, READ_CODE, READ_WRITE = 4, 5, 6
 LOAD, DYNAMIC, RELRO = 1, 2, 0x6474E552
+NEEDED, HASH, STRINGS, SYMBOLS, RELOCATIONS, RELOCATIONS_SIZE, RELOCATION_SIZE = 1, 4, 5, 6, 7, 8, 9
+STRINGS_SIZE, SYMBOL_SIZE, SONAME, ENTRIES, ENTRIES_SIZE = 10, 11, 14, 0x7000C000, 0x7000C001
 WORD_64, COPY, JUMP_SLOT = 2, 4, 5
 BRANCH, JAL, PCREL_HIGH, PCREL_LOW, ALIGN = 16, 17, 23, 24, 43
 TABLE_HIGH, CALL = 192, 198
@@ -237,14 +239,17 @@ def shared(symbols: list[Symbol] = (), relocations: list[Relocation] = (), entri
     section is a number."""
     names = Strings()
     table = bytes(24) + b"".join(symbol_bytes(names.place(s.name), s, s.section) for s in symbols)
-    tags: list[tuple[int, int | str]] = [(1, names.place(name)) for name in needed]
-    tags += [(14, names.place(soname))] if soname else []
+    tags: list[tuple[int, int | str]] = [(NEEDED, names.place(name)) for name in needed]
+    tags += [(SONAME, names.place(soname))] if soname else []
     bodies = {"symbols": table, "hash": u32(*(words or hash_words([s.name.encode() for s in symbols]))),
               "names": names.contents, "relocations": relocation_bytes(relocations, symbols),
               "entries": b"".join(u64(*entry) for entry in entries)}
-    tags += [(4, "hash"), (5, "names"), (6, "symbols"), (10, len(names.contents)), (11, 24)]
-    tags += [(7, "relocations"), (8, 24 * len(relocations)), (9, 24)] if relocations else []
-    tags += [(0x7000C000, "entries"), (0x7000C001, 40 * len(entries))] if entries else []
+    tags += [(HASH, "hash"), (STRINGS, "names"), (SYMBOLS, "symbols"), (STRINGS_SIZE, len(names.contents)),
+             (SYMBOL_SIZE, 24)]
+    if relocations:
+        tags += [(RELOCATIONS, "relocations"), (RELOCATIONS_SIZE, 24 * len(relocations)), (RELOCATION_SIZE, 24)]
+    if entries:
+        tags += [(ENTRIES, "entries"), (ENTRIES_SIZE, 40 * len(entries))]
     tags += [(0, 0)]
     bodies["dynamic"] = bytes(16 * len(tags))
 

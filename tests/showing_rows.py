@@ -57,7 +57,7 @@ HEAD_CASES: list[tuple[str, dict[int, bytes], str]] = [
     ("a base before an earlier end", {RECORD_2: u64(0x40000000)}, f"malformed image object at {RECORD_2:#x}"),
     ("an object without bytes", {RECORD_1 + 8: u64(0)}, f"malformed image object at {RECORD_1:#x}"),
     ("an object that passes the last address", {RECORD_1 + 8: u64(-4096)}, f"malformed image object at {RECORD_1:#x}"),
-    ("an object that passes the address space", {RECORD_2: u64(0x44000000)}, f"malformed image object at {RECORD_2:#x}"),
+    ("an object behind the address space", {RECORD_2: u64(0x44000000)}, f"malformed image object at {RECORD_2:#x}"),
     ("an object without a name", {RECORD_1 + 16: u16(0)}, f"malformed image name at {RECORD_1 + 16:#x}"),
     ("an object's name of 256 bytes", {RECORD_1 + 16: u16(256)}, f"malformed image name at {RECORD_1 + 16:#x}"),
     ("a byte of a name that is no text", {RECORD_1 + 18: b"\x7f"}, f"malformed image name at {RECORD_1 + 16:#x}"),

@@ -5,10 +5,11 @@ The library has a function; the program calls it by a stub, and has a table of t
 common symbol; the library that is opened counts in that symbol."""
 import re
 
-from objects import (COMMON, CALL, CAPABILITY, DYNAMIC, FUNCTION, GLOBAL, LOAD, LOCAL, OBJECT, PCREL_LOW, READ,
-                     READ_CODE, READ_WRITE, RELRO, TABLE_HIGH, Mapped, Relocation, Section, Symbol, Word, data,
-                     file_header, function, hash_words, image, label, laid, program_header, relocatable, symbol_bytes,
-                     text, thing, u32, u64, zeros)
+from objects import (ENTRIES, ENTRIES_SIZE, HASH, NEEDED, RELOCATIONS, RELOCATIONS_SIZE, RELOCATION_SIZE, SONAME,
+                     STRINGS, STRINGS_SIZE, SYMBOLS, SYMBOL_SIZE, COMMON, CALL, CAPABILITY, DYNAMIC, FUNCTION, GLOBAL,
+                     LOAD, LOCAL, OBJECT, PCREL_LOW, READ, READ_CODE, READ_WRITE, RELRO, TABLE_HIGH, Mapped,
+                     Relocation, Section, Symbol, Word, data, file_header, function, hash_words, image, label, laid,
+                     program_header, relocatable, symbol_bytes, text, thing, u32, u64, zeros)
 from row import Row, Run
 
 NOP = u32(0x13)
@@ -23,16 +24,17 @@ def asked(name_at: int, binding: int = GLOBAL) -> bytes:
     return symbol_bytes(name_at, Symbol("", binding=binding), 0)
 
 
-def linked(read_only: int, code: tuple[int, int], relro: tuple[int, int], data: tuple[int, int, int],
-           dynamic: list[int], parts: dict[int, bytes], entry: int = 0) -> bytes:
+def linked(read_only: int, code: tuple[int, int], relro: tuple[int, int], written: tuple[int, int, int],
+           dynamic: dict[int, int], parts: dict[int, bytes], entry: int = 0) -> bytes:
     """A linked file: the end of what is only read; where code begins and ends; where the dynamic table begins and what
-    is read-only after relocation ends; where data begins, ends in the file, and ends. `dynamic` has tags and values in
-    turn, and `parts` the rest; all else is zeros."""
+    is read-only after relocation ends; where data begins, ends in the file, and ends. `parts` has what stands there
+    beside the headers and the dynamic table; all else is zeros."""
+
     def header(kind: int, flags: int, start: int, end: int, alignment: int = 4096) -> bytes:
         return program_header(kind, flags, start, end - start, end - start, alignment)
 
-    table = u64(*dynamic, 0, 0)
-    start, file_end, end = data
+    table = b"".join(u64(tag, value) for tag, value in dynamic.items()) + bytes(16)
+    start, file_end, end = written
     headers = [header(LOAD, READ, 0, read_only), header(LOAD, READ_CODE, *code), header(LOAD, READ_WRITE, *relro),
                program_header(LOAD, READ_WRITE, start, file_end - start, end - start, 4096),
                header(DYNAMIC, READ_WRITE, relro[0], relro[0] + len(table), 16), header(RELRO, READ, *relro, 1)]
@@ -55,7 +57,7 @@ OBJECTS = {"h.o": h_o, "p.o": p_o, "a.o": a_o, "b.o": b_o, "lib/": b""}
 
 libh = linked(
     0x1E4, (0x1000, 0x1004), (0x2000, 0x3000), (0x3000, 0x3000, 0x3000),
-    [14, 8, 4, 0x1C0, 5, 0x1D4, 6, 0x190, 10, 16, 11, 24],
+    {SONAME: 8, HASH: 0x1C0, STRINGS: 0x1D4, SYMBOLS: 0x190, STRINGS_SIZE: 16, SYMBOL_SIZE: 24},
     {0x190: NO_SYMBOL + exported(1, 0x1000, 4, FUNCTION),
      0x1C0: u32(1, 2, 1, 0, 0),
      0x1D4: b"\0helper\0libh.so\0",
@@ -63,7 +65,8 @@ libh = linked(
 
 libp = linked(
     0x21A, (0x1000, 0x1000), (0x1000, 0x2000), (0x2000, 0x2010, 0x2010),
-    [14, 10, 4, 0x1F0, 5, 0x208, 6, 0x190, 10, 18, 11, 24, 7, 0x1D8, 8, 24, 9, 24],
+    {SONAME: 10, HASH: 0x1F0, STRINGS: 0x208, SYMBOLS: 0x190, STRINGS_SIZE: 18, SYMBOL_SIZE: 24, RELOCATIONS: 0x1D8,
+     RELOCATIONS_SIZE: 24, RELOCATION_SIZE: 24},
     {0x190: NO_SYMBOL + exported(1, 0x2000, 16) + asked(4),
      0x1D8: u64(0x2000, 2 << 32 | CAPABILITY, 0),
      0x1F0: u32(1, 3, 2, 0, 0, 1),
@@ -71,7 +74,8 @@ libp = linked(
 
 app = linked(
     0x334, (0x1000, 0x1030), (0x2000, 0x3000), (0x3000, 0x3020, 0x43B8),
-    [1, 46, 4, 0x2C8, 5, 0x2F8, 6, 0x190, 10, 54, 11, 24, 7, 0x238, 8, 24, 9, 24, 0x7000C000, 0x250, 0x7000C001, 120],
+    {NEEDED: 46, HASH: 0x2C8, STRINGS: 0x2F8, SYMBOLS: 0x190, STRINGS_SIZE: 54, SYMBOL_SIZE: 24, RELOCATIONS: 0x238,
+     RELOCATIONS_SIZE: 24, RELOCATION_SIZE: 24, ENTRIES: 0x250, ENTRIES_SIZE: 120},
     {0x190: NO_SYMBOL + exported(1, 0x1010, 32, FUNCTION) + exported(8, 0x3000, 32) + exported(14, 0x3000, 32)
      + exported(26, 0x43B0, 8) + asked(32) + exported(39, 0x3020, 5008),
      0x238: u64(0x20D0, 5 << 32 | CAPABILITY, 0),
