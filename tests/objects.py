@@ -232,11 +232,12 @@ THREE_SEGMENTS = (Segment(0, 0x1000, READ), Segment(0x1000, 0x1000, READ_CODE), 
 
 def shared(symbols: list[Symbol] = (), relocations: list[Relocation] = (), entries: list[tuple[int, ...]] = (),
            needed: list[str] = (), soname: str | None = None, segments: tuple[Segment, ...] = THREE_SEGMENTS,
-           words: list[int] | None = None, at: dict[str, int] | None = None) -> Made:
+           words: list[int] | None = None, more_tags: list[tuple[int, int]] = (), more_headers: list[bytes] = (),
+           at: dict[str, int] | None = None) -> Made:
     """A shared object whose tables stand in its first segment, behind the headers, each at the next multiple of 8 or
     where `at` has it: `symbols`, `hash`, `names`, `relocations`, `entries`, `dynamic`. An entry of `__cap_relocs` is
     its five numbers; `words` stand in the place of the right hash table. Symbols have addresses as values, and their
-    section is a number."""
+    section is a number. The offsets: those of the tables, `symbol NAME`, and `tag N` of the first entry with the tag."""
     names = Strings()
     table = bytes(24) + b"".join(symbol_bytes(names.place(s.name), s, s.section) for s in symbols)
     tags: list[tuple[int, int | str]] = [(NEEDED, names.place(name)) for name in needed]
@@ -250,24 +251,29 @@ def shared(symbols: list[Symbol] = (), relocations: list[Relocation] = (), entri
         tags += [(RELOCATIONS, "relocations"), (RELOCATIONS_SIZE, 24 * len(relocations)), (RELOCATION_SIZE, 24)]
     if entries:
         tags += [(ENTRIES, "entries"), (ENTRIES_SIZE, 40 * len(entries))]
-    tags += [(0, 0)]
+    tags += [*more_tags, (0, 0)]
     bodies["dynamic"] = bytes(16 * len(tags))
 
     places: dict[str, int] = {}
-    end = 64 + 56 * (len(segments) + 1)
+    headers = len(segments) + 1 + len(more_headers)
+    end = 64 + 56 * headers
     for name, body in bodies.items():
         places[name] = (at or {}).get(name, up(end, 8))
         end = max(end, places[name] + len(body))
     bodies["dynamic"] = b"".join(u64(tag, places[value] if isinstance(value, str) else value) for tag, value in tags)
 
-    head = file_header(3, len(segments) + 1, 0, 0)
+    head = file_header(3, headers, 0, 0)
     for segment in segments:
         in_file = segment.size if segment.file_size is None else segment.file_size
         head += program_header(LOAD, segment.flags, segment.address, in_file, segment.size, segment.alignment)
         end = max(end, segment.address + in_file)
     size = len(bodies["dynamic"])
-    head += program_header(DYNAMIC, READ_WRITE, places["dynamic"], size, size, 8)
+    head += program_header(DYNAMIC, READ_WRITE, places["dynamic"], size, size, 8) + b"".join(more_headers)
     parts = {0: head} | {places[name]: body for name, body in bodies.items() if body}
+    for number, symbol in enumerate(symbols, 1):
+        places["symbol " + symbol.name] = places["symbols"] + 24 * number
+    for number, (tag, _) in reversed(list(enumerate(tags))):
+        places[f"tag {tag}"] = places["dynamic"] + 16 * number
     return Made(laid(end, parts), places)
 
 

@@ -15,12 +15,14 @@ import linking_rows
 import loading_rows
 import object_rows
 import outside_rows
+import shared_object_rows
 import showing_rows
 import users_case
 import word_rows
 from row import Tester, Wrong
 
-TABLES = [users_case, linking_rows, loading_rows, showing_rows, object_rows, word_rows, outside_rows]
+TABLES = [users_case, linking_rows, loading_rows, showing_rows, object_rows, shared_object_rows, word_rows,
+          outside_rows]
 HERE = Path(__file__).resolve().parent
 
 
