@@ -1,6 +1,6 @@
 """Rows of `load`: what each slot holds, in which order objects are loaded, and which definition a name is bound to."""
-from objects import (COPY, THREE_SEGMENTS, ABSOLUTE, READ, READ_WRITE, WEAK, WORD_64, Made, Mapped, Relocation,
-                     Segment, Symbol, Word, data, image, relocatable, shared, thing, u64, up)
+from objects import (THREE_SEGMENTS, ABSOLUTE, READ, READ_WRITE, WEAK, WORD_64, Made, Mapped, Relocation, Segment,
+                     Symbol, Word, data, image, relocatable, shared, thing, u64, up)
 from shared_object import FUNCTION_ENTRY, READ_ONLY_ENTRY, WRITABLE_ENTRY
 from row import Holds, Row, Run
 from users_case import FILES, LOADING, img, libh
@@ -121,10 +121,6 @@ ROWS = [
             "m: malformed capability permissions at 0x200"),
     refused("an entry of a function has an offset", entries((0x2000, 0x1004, 1, 0, FUNCTION_ENTRY)), 4,
             "m: malformed addend at 0x200"),
-    refused("an entry's permissions have an unknown bit", entries((0x2000, 0x3000, 0, 32, 1)), 4,
-            "m: malformed capability permissions at 0x200"),
-    refused("an entry's interval is in no segment", entries((0x2000, 0x3FF0, 0, 32, WRITABLE_ENTRY)), 4,
-            "m: malformed symbol interval at 0x200"),
     refused("an entry's bounds can't be exact",
             entries((0x2000, 0x3004, 0, 4096, WRITABLE_ENTRY), segments=FIVE_PAGES), 7,
             "m: inexact - 0x40003004 0x1000"),
@@ -140,10 +136,6 @@ ROWS = [
           [Word(0x40002000, 0x40003020, 0x007D00000409B004, 0, "d")]),
     refused("a capability would point behind the end of its symbol", records(Relocation(0x2000, "d", 33)), 4,
             "m: malformed addend at 0x300"),
-    refused("a relocation that copies a definition", records(Relocation(0x2000, "d", kind=COPY)), 5,
-            "m: unsupported relocation kind at 0x300"),
-    refused("a slot in what can't be written", records(Relocation(0x800, "d")), 4,
-            "m: malformed relocation slot at 0x300"),
     refused("a slot behind the last segment",
             records(Relocation(0x4000 - 8, "d", kind=WORD_64), Relocation(0x4000, "d")), 4,
             "m: malformed relocation slot at 0x318"),
@@ -152,9 +144,6 @@ ROWS = [
             "m: malformed relocation slot at 0x318"),
     refused("two relocations have one slot", records(Relocation(0x2000, "d"), Relocation(0x2000, "d")), 4,
             "m: malformed relocation slot at 0x318"),
-    refused("a symbol that passes its segment",
-            shared([thing("d", 1, 0x3FF0, 32)], [Relocation(0x2000, "d")], at={"relocations": 0x300}), 4,
-            "m: malformed symbol interval at 0x300"),
     alone("a long symbol at a multiple of 8 has exact bounds", large_symbol(0x3008),
           [Word(0x40002000, 0x40003008, 0x007D00000003B00C, 0, "big")]),
     refused("a long symbol that isn't at a multiple of 8 has none", large_symbol(0x3004), 7,
