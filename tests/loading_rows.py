@@ -1,6 +1,6 @@
 """Rows of `load`: what each slot holds, in which order objects are loaded, and which definition a name is bound to."""
-from objects import (THREE_SEGMENTS, ABSOLUTE, READ, READ_WRITE, WEAK, WORD_64, Made, Mapped, Relocation, Segment,
-                     Symbol, Word, data, image, relocatable, shared, thing, u64, up)
+from objects import (NONE, RELATIVE, THREE_SEGMENTS, ABSOLUTE, READ, READ_WRITE, WEAK, WORD_64, Made, Mapped,
+                     Relocation, Segment, Symbol, Word, data, image, relocatable, shared, thing, u64, up)
 from shared_object import FUNCTION_ENTRY, READ_ONLY_ENTRY, WRITABLE_ENTRY
 from row import Holds, Row, Run
 from users_case import FILES, LOADING, img, libh
@@ -45,6 +45,11 @@ def listed(*objects: tuple[int, int, str]) -> str:
 
 def of_four_pages(*names: str) -> str:
     return listed(*((0x40000000 + 0x4000 * i, 0x4000, name) for i, name in enumerate(names)))
+
+
+def hashed(*words: int) -> Made:
+    """An object that defines `a` and `b`, with these words as its hash table, which stands at 0x200."""
+    return shared([thing("a", 1, 0x3000, 8), thing("b", 1, 0x3010, 8)], words=list(words), at={"hash": 0x200})
 
 
 def large_symbol(address: int) -> Made:
@@ -144,6 +149,9 @@ ROWS = [
             "m: malformed relocation slot at 0x318"),
     refused("two relocations have one slot", records(Relocation(0x2000, "d"), Relocation(0x2000, "d")), 4,
             "m: malformed relocation slot at 0x318"),
+    alone("slots of 8 bytes have addresses, and no tag",
+          records(Relocation(0x2000, "d", 1, WORD_64), Relocation(0x2008, 0, 16, RELATIVE), Relocation(0, 0, 0, NONE)),
+          [], {0x2000: u64(0x40003001, 0x40000010)}),
     alone("a long symbol at a multiple of 8 has exact bounds", large_symbol(0x3008),
           [Word(0x40002000, 0x40003008, 0x007D00000003B00C, 0, "big")]),
     refused("a long symbol that isn't at a multiple of 8 has none", large_symbol(0x3004), 7,
@@ -189,6 +197,10 @@ ROWS = [
         Run("load -o img -L lib app try:gone.so open:libp.so", err="lib/gone.so: no such file", created={"img": img})]),
 
     *(refused("a library " + change, changed, status, "m: " + line) for change, changed, status, line in LIBH_CHANGES),
+    alone("a hash table whose two names stand on one chain", hashed(1, 3, 2, 0, 0, 1), []),
+    refused("a hash chain that comes back to itself", hashed(1, 3, 2, 0, 0, 2), 4, "m: malformed hash chain at 0x200"),
+    refused("a hash chain of no symbol", hashed(1, 3, 3, 0, 0, 1), 4, "m: malformed hash chain at 0x200"),
+    refused("a hash chain that hides its second name", hashed(1, 3, 1, 0, 0, 0), 4, "m: malformed hash chain at 0x200"),
     Row("a hash table that hides a name is refused by the path of its library", FILES | {"lib/libh.so": hidden}, [
         Run(LOADING, 4, err="lib/libh.so: malformed hash chain at 0x1c0")]),
     Row("the same, of a library that is opened", FILES | {"lib/libx.so": hidden}, [

@@ -19,7 +19,7 @@ READ, READ_CODE, READ_WRITE = 4, 5, 6
 LOAD, DYNAMIC, RELRO = 1, 2, 0x6474E552
 NEEDED, HASH, STRINGS, SYMBOLS, RELOCATIONS, RELOCATIONS_SIZE, RELOCATION_SIZE = 1, 4, 5, 6, 7, 8, 9
 STRINGS_SIZE, SYMBOL_SIZE, SONAME, ENTRIES, ENTRIES_SIZE = 10, 11, 14, 0x7000C000, 0x7000C001
-WORD_64, COPY, JUMP_SLOT = 2, 4, 5
+NONE, WORD_64, RELATIVE, COPY, JUMP_SLOT = 0, 2, 3, 4, 5
 BRANCH, JAL, PCREL_HIGH, PCREL_LOW, ALIGN = 16, 17, 23, 24, 43
 TABLE_HIGH, CALL = 192, 198
 RISC_V, PURE_CAPABILITY = 243, 0x30000
@@ -237,7 +237,7 @@ def shared(symbols: list[Symbol] = (), relocations: list[Relocation] = (), entri
     """A shared object whose tables stand in its first segment, behind the headers, each at the next multiple of 8 or
     where `at` has it: `symbols`, `hash`, `names`, `relocations`, `entries`, `dynamic`. An entry of `__cap_relocs` is
     its five numbers; `words` stand in the place of the right hash table. Symbols have addresses as values, and their
-    section is a number. The offsets: those of the tables, `symbol NAME`, and `tag N` of the first entry with the tag."""
+    section is a number. The offsets: those of the tables, `symbol NAME`, and `tag N` of the first entry with it."""
     names = Strings()
     table = bytes(24) + b"".join(symbol_bytes(names.place(s.name), s, s.section) for s in symbols)
     tags: list[tuple[int, int | str]] = [(NEEDED, names.place(name)) for name in needed]

@@ -58,7 +58,7 @@ def main() -> None:
                 wrong += 1
                 print(f"{row.shows}:\n{traceback.format_exc()}")
     print(f"{passed} rows passed, {wrong} didn't" + (f"; no C compiler: {skipped} skipped" if skipped else ""))
-    sys.exit(1 if wrong else 0)
+    sys.exit(1 if wrong or not passed else 0)
 
 
 if __name__ == "__main__":
