@@ -1,9 +1,11 @@
 """Rows of `link`: where the parts of the linked file stand, and what code and capabilities become in it."""
-from objects import (ENTRIES, ENTRIES_SIZE, HASH, STRINGS, STRINGS_SIZE, SYMBOLS, SYMBOL_SIZE, BRANCH, COMMON, JAL,
-                     LOAD, READ, READ_CODE, READ_WRITE, RELRO, Made, Relocation, Symbol, data, function, label,
-                     program_header, relocatable, shared, text, thing, u32, u64, zeros)
+from objects import (NEEDED, RELOCATIONS, RELOCATIONS_SIZE, RELOCATION_SIZE, SONAME, INIT, INIT_SIZE, CAPABILITY, WEAK,
+                     HIDDEN, OBJECT, FUNCTION, initial_calls, ENTRIES, ENTRIES_SIZE, HASH, STRINGS, STRINGS_SIZE,
+                     SYMBOLS, SYMBOL_SIZE, BRANCH, COMMON, JAL, LOAD, READ, READ_CODE, READ_WRITE, RELRO, Made,
+                     Relocation, Symbol, data, function, label, program_header, relocatable, shared, text, thing, u32,
+                     u64, zeros)
 from row import Holds, Row, Run
-from users_case import NO_SYMBOL, exported, linked
+from users_case import NO_SYMBOL, NOP, asked, exported, linked
 
 SIZES = {"a": 1, "b": 5001, "c": 100000}
 three = relocatable([data(bytes(size), f".data.{name}", 1) for name, size in SIZES.items()],
@@ -35,6 +37,46 @@ common = linked(
     {0x190: NO_SYMBOL + exported(1, 0x2008, 8) + exported(7, 0x2000, 4),
      0x1D8: u32(1, 3, 2, 0, 0, 1),
      0x1F0: b"\0count\0before\0"})
+
+calls_first = relocatable([text(NOP), initial_calls(bytes(16))], [function("go", ".text", 0, 4)],
+                          {".init_array": [Relocation(0, "go")]})
+calls_first_linked = linked(
+    0x1F8, (0x1000, 0x1004), (0x2000, 0x3000), (0x3000, 0x3000, 0x3000),
+    {SONAME: 4, HASH: 0x1D8, STRINGS: 0x1EC, SYMBOLS: 0x190, STRINGS_SIZE: 12, SYMBOL_SIZE: 24, RELOCATIONS: 0x1C0,
+     RELOCATIONS_SIZE: 24, RELOCATION_SIZE: 24, INIT: 0x20C0, INIT_SIZE: 16},
+    {0x190: NO_SYMBOL + exported(1, 0x1000, 4, FUNCTION),
+     0x1C0: u64(0x20C0, 1 << 32 | CAPABILITY, 0),
+     0x1D8: u32(1, 2, 1, 0, 0),
+     0x1EC: b"\0go\0libi.so\0",
+     0x1000: NOP})
+CALLS_FIRST_REPORT = """\
+object 0x0000000040000000 0x0000000000003000 libi.so
+cap 0x00000000400020c0 base 0x0000000040000000 top 0x00000000040003000 cursor 0x0000000040001000 perms 0017 flag 1 sentry owner 0 symbol go
+objects 1 words 1
+"""
+
+weakly = relocatable([data(bytes(16))], [thing("d", ".data", 0, 16), Symbol("w", binding=WEAK)],
+                     {".data": [Relocation(0, "w")]})
+weakly_linked = linked(
+    0x212, (0x1000, 0x1000), (0x1000, 0x2000), (0x2000, 0x2010, 0x2010),
+    {NEEDED: 5, HASH: 0x1F0, STRINGS: 0x208, SYMBOLS: 0x190, STRINGS_SIZE: 10, SYMBOL_SIZE: 24, RELOCATIONS: 0x1D8,
+     RELOCATIONS_SIZE: 24, RELOCATION_SIZE: 24},
+    {0x190: NO_SYMBOL + exported(1, 0x2000, 16) + asked(3, WEAK),
+     0x1D8: u64(0x2000, 2 << 32 | CAPABILITY, 0),
+     0x1F0: u32(1, 3, 2, 0, 0, 1),
+     0x208: b"\0d\0w\0x.so\0"})
+
+hiding = relocatable([data(bytes(32))],
+                     [thing("p", ".data", 0, 16), Symbol("h", ".data", 16, 16, OBJECT, visibility=HIDDEN)],
+                     {".data": [Relocation(0, "h")]})
+hiding_linked = linked(
+    0x203, (0x1000, 0x1000), (0x1000, 0x2000), (0x2000, 0x2020, 0x2020),
+    {SONAME: 3, HASH: 0x1E8, STRINGS: 0x1FC, SYMBOLS: 0x190, STRINGS_SIZE: 7, SYMBOL_SIZE: 24, ENTRIES: 0x1C0,
+     ENTRIES_SIZE: 40},
+    {0x190: NO_SYMBOL + exported(1, 0x2000, 16),
+     0x1C0: u64(0x2000, 0x2010, 0, 16, 0),
+     0x1E8: u32(1, 2, 1, 0, 0),
+     0x1FC: b"\0p\0out\0"})
 
 
 def jump(contents: bytes, at: int, kind: int, target: int) -> Made:
@@ -72,6 +114,17 @@ ROWS = [
         {"a.o": relocatable([], [thing("count", COMMON, 4, 4)]),
          "b.o": relocatable([zeros(4)], [thing("count", COMMON, 8, 8), thing("before", ".bss", 0, 4)])}, [
             Run("link -o app a.o b.o", created={"app": common})]),
+    Row("initial calls stand behind the dynamic table, and become entries into code", {"i.o": calls_first}, [
+        Run("link -o libi.so --shared libi.so i.o", created={"libi.so": calls_first_linked}),
+        Run("load -o i libi.so", created={"i": Holds()}),
+        Run("show i", out=CALLS_FIRST_REPORT)]),
+    Row("a library without a name of its own is needed by its file's name, and once",
+        {"m.o": weakly, "lib/x.so": shared(), "other/x.so": shared()}, [
+            Run("link -o app m.o lib/x.so other/x.so", created={"app": weakly_linked})]),
+    Row("a library is needed by its own name", {"m.o": weakly, "long.so": shared(soname="x.so")}, [
+        Run("link -o app m.o long.so", created={"app": weakly_linked})]),
+    Row("a hidden symbol isn't exported, and a capability to it is the library's own", {"o.o": hiding}, [
+        Run("link -o out --shared out o.o", created={"out": hiding_linked})]),
     rounded_row("the range of code ends with a page, whose length is exact", 0x3FD000, 0x3FE001, 0x3FF000, 4096),
     rounded_row("the range of code ends with a page, and asks for more alignment", 0x3FF000, 0x3FFFF1, 0x400000, 8192),
     rounded_row("the range of code ends behind its page, where its length is exact", 0x3FF000, 0x400001, 0x402000,

@@ -1,11 +1,12 @@
 """Shared objects that `load` refuses: a case for each check, in the order of the checks. Each is one good object with a
 few other bytes; a line names the offset of what is wrong."""
-from objects import (COMMON, COPY, DYNAMIC, ENTRIES, ENTRIES_SIZE, HASH, JUMP_SLOT, NEEDED, READ, RELOCATIONS,
-                     RELOCATIONS_SIZE, RELOCATION_SIZE, RELRO, SONAME, STRINGS, STRINGS_SIZE, SYMBOLS, SYMBOL_SIZE,
-                     WEAK, Made, Relocation, Sparse, Symbol, function, program_header, shared, thing, u16, u32, u64)
+from objects import (INIT, INIT_SIZE, COMMON, COPY, DYNAMIC, ENTRIES, ENTRIES_SIZE, HASH, JUMP_SLOT, NEEDED, READ,
+                     RELOCATIONS, RELOCATIONS_SIZE, RELOCATION_SIZE, RELRO, SONAME, STRINGS, STRINGS_SIZE, SYMBOLS,
+                     SYMBOL_SIZE, WEAK, Made, Relocation, Sparse, Symbol, function, program_header, shared, thing, u16,
+                     u32, u64)
 from row import Holds, Row, Run
 
-INIT, INIT_SIZE, PASSED_OVER = 25, 27, 21
+PASSED_OVER = 21
 JUMPS, JUMPS_SIZE, JUMPS_KIND = 23, 2, 20
 TABLES = {"symbols": 0x300, "hash": 0x400, "names": 0x500, "relocations": 0x600, "entries": 0x700, "dynamic": 0x800}
 JUMPS_AT = 0x680
