@@ -30,6 +30,7 @@ mod common_map;
 mod commons;
 mod cutting;
 mod finding;
+mod laws;
 mod layout;
 mod listed;
 mod making;
@@ -44,6 +45,7 @@ mod segments;
 mod stages;
 
 pub use cutting::pieces;
+pub use laws::layout_laws;
 pub use layout::{Layout, lay};
 pub use parts::{Parts, Sizes};
 pub use piece::Piece;
