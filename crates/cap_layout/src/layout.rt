@@ -5,6 +5,7 @@ ghost use Rattle.cap_base.specs.Steps.{Yields, each};
 ghost use Rattle.cap_layout.specs.Laid.{lay_of, laid_as, ends_low, AreSmall};
 ghost use Rattle.cap_layout.specs.Parts.{padded_ends};
 ghost use Rattle.cap_layout.specs.IsPiece.{IsPieceOf, IsLaid};
+ghost use Rattle.cap_layout.specs.Exact.{IsExactlyLaid};
 
 use crate::alignment::check_files;
 use crate::classes::is_split;
@@ -86,6 +87,7 @@ pub fn lay<'a>(
     requires of_inputs { All (IsPieceOf rels.now) pieces.now.all }
     ensures value { Yields (λ laid. laid) result (lay_of rels.now pieces.now sizes.now) }
     ensures sound { IfOk result IsLaid }
+    ensures exact { IfOk result IsExactlyLaid }
 {
     let layout = place(alloc, rels, pieces, sizes)?;
     check_files(&layout, rels)?;
