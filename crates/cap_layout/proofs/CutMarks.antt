@@ -52,7 +52,7 @@ abbrev Has : List ℕ → ℕ → Type 0
 Has ms x = list_any (λ k. k == x) ms ≡ true
 
 member_above : (m x : ℕ) (ms : List ℕ) → Above m ms → Has ms x → m < x
-member_above m x [] above h = absurd cc
+member_above m x [] above h = absurd (true≢false (sym h))
 member_above m x (y ∷ ms) above h =
     ⊎_elim
     (λ (e : (y == x) ≡ true). subst (λ n. m < n) (eqb-true y x e) above.0)
@@ -79,11 +79,11 @@ next_is b n ms ascends h le =
     (or_cases (n == b) (list_any (λ k. k == b) ms) h)
 
 neighbours : (a b : ℕ) (ms : List ℕ) → Ascends ms → Has ms a → Has ms b → a < b → list_any (is_inside a b) ms ≡ false → Contains (pairs ms) (a, b)
-neighbours a b [] ascends x y lt none = absurd cc
+neighbours a b [] ascends x y lt none = absurd (true≢false (sym x))
 neighbours a b (m ∷ []) ascends x y lt none =
     ⊎_elim
-    (λ (e : (m == a) ≡ true). let same = eqb-true m a e in let rest = has_later m b [] (omega (arith, lt, same)) y in absurd cc)
-    (λ (r : ((m == a) ≡ false) × Has [] a). let rest = r.1 in absurd cc)
+    (λ (e : (m == a) ≡ true). let same = eqb-true m a e in absurd (true≢false (sym (has_later m b [] (omega (arith, lt, same)) y))))
+    (λ (r : ((m == a) ≡ false) × Has [] a). absurd (true≢false (sym r.1)))
     (or_cases (m == a) false x)
 neighbours a b (m ∷ n ∷ ms) ascends x y lt none =
     let inner = (or_none (is_inside a b m) (list_any (is_inside a b) (n ∷ ms)) none).1 in
@@ -183,18 +183,15 @@ module _ (secs : List Section) (n : ℕ) where
 -- ---- no end of a cut lies inside
 none_inside : (a b : ℕ) (test : Symbol → Bool) (ss : List Symbol) → AllByRecursion (λ t. test t ≡ true → IsOutside a b t.value × IsOutside a b (t.value + t.size)) ss → list_any (is_inside a b) (flat_map two (filter test ss)) ≡ false
 none_inside a b test [] h = refl
-none_inside a b test (t ∷ ss) h = by (test t) refl
+none_inside a b test (t ∷ ss) h = by (test t) refl (none_inside a b test ss h.1)
   where
-    rest : list_any (is_inside a b) (flat_map two (filter test ss)) ≡ false
-    rest = none_inside a b test ss h.1
-
-    by : (c : Bool) → test t ≡ c → list_any (is_inside a b) (flat_map two (cond c (t ∷ filter test ss) (filter test ss))) ≡ false
-    by true yes =
+    by : (c : Bool) → test t ≡ c → list_any (is_inside a b) (flat_map two (filter test ss)) ≡ false → list_any (is_inside a b) (flat_map two (cond c (t ∷ filter test ss) (filter test ss))) ≡ false
+    by true yes rest =
         let both = h.0 yes in
         ap (λ x. x || (is_inside a b (t.value + t.size) || list_any (is_inside a b) (flat_map two (filter test ss)))) (outside a b t.value both.0)
         ∙ ap (λ x. x || list_any (is_inside a b) (flat_map two (filter test ss))) (outside a b (t.value + t.size) both.1)
         ∙ rest
-    by false no = rest
+    by false no rest = rest
 
 -- both ends of a cut are among the ends
 has_ends : (test : Symbol → Bool) (ss : List Symbol) (i : ℕ) (d : Symbol) → i < length ss → test (get_or ss i d) ≡ true → Has (flat_map two (filter test ss)) (get_or ss i d).value × Has (flat_map two (filter test ss)) ((get_or ss i d).value + (get_or ss i d).size)
@@ -209,22 +206,19 @@ has_ends test (t ∷ ss) zero d lt yes =
     second true y z h = refl
     second false true z h = refl
     second false false z h = absurd cc
-has_ends test (t ∷ ss) (suc i) d lt yes = by (test t)
+has_ends test (t ∷ ss) (suc i) d lt yes = by (test t) (has_ends test ss i d (omega (arith, lt)) yes)
   where
-    rest : Has (flat_map two (filter test ss)) (get_or ss i d).value × Has (flat_map two (filter test ss)) ((get_or ss i d).value + (get_or ss i d).size)
-    rest = has_ends test ss i d (omega (arith, lt)) yes
-
     more : (x y z : Bool) → z ≡ true → (x || (y || z)) ≡ true
     more true y z h = refl
     more false true z h = refl
     more false false z h = h
 
-    by : (c : Bool) → Has (flat_map two (cond c (t ∷ filter test ss) (filter test ss))) (get_or ss i d).value × Has (flat_map two (cond c (t ∷ filter test ss) (filter test ss))) ((get_or ss i d).value + (get_or ss i d).size)
-    by true = (
+    by : (c : Bool) → Has (flat_map two (filter test ss)) (get_or ss i d).value × Has (flat_map two (filter test ss)) ((get_or ss i d).value + (get_or ss i d).size) → Has (flat_map two (cond c (t ∷ filter test ss) (filter test ss))) (get_or ss i d).value × Has (flat_map two (cond c (t ∷ filter test ss) (filter test ss))) ((get_or ss i d).value + (get_or ss i d).size)
+    by true rest = (
       more (t.value == (get_or ss i d).value) ((t.value + t.size) == (get_or ss i d).value) _ rest.0,
       more (t.value == ((get_or ss i d).value + (get_or ss i d).size)) ((t.value + t.size) == ((get_or ss i d).value + (get_or ss i d).size)) _ rest.1,
     )
-    by false = rest
+    by false rest = rest
 
 -- ---- the marks of a section
 -- each cut lies between neighbouring marks
@@ -239,7 +233,7 @@ between_marks object n i d none inside cuts high =
     let some : 0 < s.size = (cut_facts object.sections s.size s.place n cuts).2 in
     let outsides : AllByRecursion (λ t. cuts_section object n t ≡ true → IsOutside a b t.value × IsOutside a b (t.value + t.size)) object.symbols =
     recursion_from_All (λ t. cuts_section object n t ≡ true → IsOutside a b t.value × IsOutside a b (t.value + t.size)) object.symbols
-    (λ j e lt k. at_default object.symbols j d e lt (λ t. cuts_section object n t ≡ true → IsOutside a b t.value × IsOutside a b (t.value + t.size)) (λ k'. ends_outside object.sections n object.symbols i j d none inside lt cuts k') k) in
+    (λ j e lt. at_default object.symbols j d e lt (λ t. cuts_section object n t ≡ true → IsOutside a b t.value × IsOutside a b (t.value + t.size)) (λ other. ends_outside object.sections n object.symbols i j d none inside lt cuts other)) in
     let inner : list_any (is_inside a b) ends ≡ false = none_inside a b (cuts_section object n) object.symbols outsides in
     let clear : list_any (is_inside a b) xs ≡ false =
     ap (λ x. x || (is_inside a b size || list_any (is_inside a b) ends)) (outside a b 0 (inl (omega arith)))

@@ -6,7 +6,7 @@ use Rattle.std.proofs.lemmas.Bool.{cases_lt, cond-true, cond-false, ne_eqb, true
 use Rattle.std.proofs.lemmas.List.{get_or_default, get_or_past, get_or_append_left, length-append, length-map, get_or-map}
 use Rattle.std.proofs.lemmas.List.Elements.{Contains-append_left, Contains-append_right}
 use Rattle.std.proofs.lemmas.List.FromFn.{length-enumerate_from}
-use Rattle.cap_base.specs.Steps.{each, in_file}
+use Rattle.cap_base.specs.Steps.{◌>>=◌, ◌>>◌, steps, each, in_file}
 use Rattle.cap_base.specs.declared.refusal.Fault.{Fault}
 use Rattle.cap_base.specs.declared.refusal.Refusal.{Refusal}
 use Rattle.cap_elf.specs.declared.records.Class.{Class}
@@ -17,7 +17,7 @@ use Rattle.cap_elf.specs.Classes.{is_split, same_class}
 use Rattle.cap_elf.specs.IsRelRead.{IsRelRead}
 use Rattle.cap_elf.specs.Records.{null_symbol}
 use Rattle.cap_elf.specs.RelObject.{RelObject, file_of, section_of, symbol_of, no_object, no_section}
-use Rattle.cap_elf.proofs.Passing.{bind_passed, then_passed}
+use Rattle.cap_elf.proofs.Passing.{then_passed}
 use Rattle.cap_intervals.specs.Earlier.{first_against, NoneAgainst, IsFirstAgainst}
 use Rattle.cap_intervals.proofs.Earlier.{first_against_is}
 use Rattle.cap_syms.specs.IsResolved.{IsResolved}
@@ -43,18 +43,22 @@ use Rattle.cap_layout.proofs.PieceSearch.{parts_of, of_section}
 use Rattle.cap_layout.proofs.PlaceExact.{exactly_laid}
 
 -- ---- what was accepted
+passed_both : (r : Result (Unit {0}) Refusal) (f : Unit {0} → Result (Unit {0}) Refusal) → (r >>= f) ≡ Ok tt → (r ≡ Ok tt) × (f tt ≡ Ok tt)
+passed_both (Ok tt) f h = (refl, h)
+passed_both (Err e) f h = absurd (cc)
+
 each_passed : {X : Type 0} (f : X → Result (Unit {0}) Refusal) (xs : List X) (k : ℕ) (d : X) → each f xs ≡ Ok tt → k < length xs → f (get_or xs k d) ≡ Ok tt
 each_passed f [] k d h lt = absurd (omega (arith, lt))
-each_passed f (x ∷ xs) zero d h lt = (bind_passed (f x) (λ _. each f xs) tt h).1
-each_passed f (x ∷ xs) (suc k) d h lt = each_passed f xs k d (bind_passed (f x) (λ _. each f xs) tt h).2 (omega (arith, lt))
+each_passed f (x ∷ xs) zero d h lt = (passed_both (f x) (λ u. steps (λ _ y. f y) u xs) h).0
+each_passed f (x ∷ xs) (suc k) d h lt = each_passed f xs k d (passed_both (f x) (λ u. steps (λ _ y. f y) u xs) h).1 (omega (arith, lt))
 
 file_passed : (number : ℕ) (r : Result (Unit {0}) Fault) → in_file number r ≡ Ok tt → r ≡ Ok tt
-file_passed number (Ok u) h = refl
-file_passed number (Err f) h = absurd cc
+file_passed number (Ok tt) h = refl
+file_passed number (Err f) h = absurd (cc)
 
 none_found : (o : Option Symbol) → refuse_found o ≡ Ok tt → o ≡ None
 none_found None h = refl
-none_found (Some s) h = absurd cc
+none_found (Some s) h = absurd (cc)
 
 -- no two cuts of an accepted file overlap
 none_overlap : (object : RelObject) → overlap_of object ≡ Ok tt → NoneAgainst (overlaps object.sections) object.symbols
@@ -224,7 +228,7 @@ layouts_are_exact rels table pieces sizes laid read resolved accepted said =
     let list = (is_list rels table pieces accepted).1 in
     let sound : All IsPiece pieces.all = (all_pieces_are rels table pieces.all read resolved (ap (λ (l : PieceList). l.all) list)).0 in
     let grouped = (ordered rels table read resolved).grouped in
-    let first = then_passed (each ends_low (padded_ends pieces.all sizes)) _ laid said in
+    let first = then_passed (each ends_low (padded_ends pieces.all sizes)) (each (file_aligned (laid_as rels pieces sizes)) (enumerate_from 0 rels) >> Ok (laid_as rels pieces sizes)) laid said in
     let second = then_passed (each (file_aligned (laid_as rels pieces sizes)) (enumerate_from 0 rels)) (Ok (laid_as rels pieces sizes)) laid first.1 in
     let same = second.1 in
     let is : laid_as rels pieces sizes ≡ laid = cc in

@@ -37,6 +37,12 @@ largest_power m (p ∷ ps) power sound =
     let first : IsPiece p = sound 0 p (omega arith) in
     largest_power (max m p.align) ps (max_power m p.align power first.align_power) (λ k d lt. sound (suc k) d (omega (arith, lt)))
 
+left_of : (a l r w : ℕ) → a ≤ l → w ≡ max l r → a ≤ w
+left_of a l r w le is = omega (arith, le, is)
+
+right_of : (l r w : ℕ) → w ≡ max l r → r ≤ w
+right_of l r w is = omega (arith, is)
+
 module _ (ps : List Piece) (end : ℕ) where
   abbrev largest : ℕ
   largest = fold max 4096 (map (λ p. p.align) ps)
@@ -49,10 +55,10 @@ module _ (ps : List Piece) (end : ℕ) where
       subst IsPower (sym whole_is) (max_power largest (representable_alignment end) (largest_power 4096 ps (pow_power 12) sound) (representable_power end))
 
   whole_at : (i : ℕ) → i < length ps → (piece_of ps i).align ≤ whole_alignment ps end
-  whole_at i lt = let le = largest_at 4096 ps i lt in omega (arith, le, whole_is)
+  whole_at i lt = left_of (piece_of ps i).align largest (representable_alignment end) (whole_alignment ps end) (largest_at 4096 ps i lt) whole_is
 
   whole_end : representable_alignment end ≤ whole_alignment ps end
-  whole_end = omega (arith, whole_is)
+  whole_end = right_of largest (representable_alignment end) (whole_alignment ps end) whole_is
 
 -- ---- all end where the file ends, or before
 abbrev EndBy : ℕ → List Piece → List ℕ → Type 0

@@ -132,7 +132,8 @@ impl<'a> Layout<'a> {
     fn place_beside(&self, file: u32, section: u32, value: u64, addend: i64) -> Option<u64>
         ensures { result ≡ option_and_then (place_address self.now file section) (offset_of value addend) }
     {
-        // Every piece ends below 2^62, so none holds an offset that has more than 64 bits.
+        // Every piece ends below 2^62, so none holds an offset that has more than 64 bits. This is known of the layout
+        // once its pieces are read.
         let _ = &self.pieces;
         match value.checked_add_signed(addend) {
             Some(offset) => self.place(file, section, offset),
