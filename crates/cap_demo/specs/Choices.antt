@@ -28,6 +28,5 @@ targets_of state number =
     map (data_target number) (draws 64 state) ++ function_target number (drawn (after 64 state)) ∷ []
 
 -- as many sizes as an object has data, each of a datum
-pub record AreSizes (sizes : List ℕ) : Type 0 where
-  pub count : length sizes ≡ 64
-  pub small : All (λ size. size ≤ 9000) sizes
+abbrev pub AreSizes : List ℕ → Type 0
+AreSizes sizes = (length sizes ≡ 64) × All (λ size. size ≤ 9000) sizes

@@ -1,7 +1,7 @@
 //! What the numbers choose for an object.
 
 ghost use Rattle.std.specs.Prelude.{◌≡◌, ◌≤◌, ◌<◌, ◌+◌, map, length, All, IfOk, OnOk};
-ghost use Rattle.cap_demo.specs.Choices.{size_of, known_objects as known_of, data_target, function_target, sizes_of, targets_of, AreSizes};
+ghost use Rattle.cap_demo.specs.Choices.{size_of, known_objects as known_of, data_target, function_target, sizes_of, targets_of};
 ghost use Rattle.cap_demo.specs.Numbers.{after};
 
 use crate::names::SymbolName;
@@ -59,7 +59,6 @@ fn function(number: u32, value: u32) -> SymbolName
 #[tactic(auto, unfolding(crate::specs::Choices::sizes_of))]
 pub(crate) fn draw_sizes(alloc: Global, numbers: &mut Numbers) -> Result<Vec<u64>, NoMemory>
     ensures sizes { IfOk result (λ sizes. sizes.items ≡ sizes_of numbers.old) }
-    ensures small { IfOk result (λ sizes. AreSizes sizes.items) }
     ensures state { OnOk result (numbers.new ≡ after 64 numbers.old) }
 {
     let values = numbers.draw_all(alloc, DATA_COUNT)?;
@@ -71,14 +70,13 @@ pub(crate) fn draw_sizes(alloc: Global, numbers: &mut Numbers) -> Result<Vec<u64
 }
 
 /// Draws the targets of the capabilities of an object.
-#[tactic(auto, unfolding(crate::specs::Choices::targets_of))]
+#[tactic(auto, unfolding(crate::specs::Choices::targets_of), using(crate::proofs::Drawing::targets_state))]
 pub(crate) fn draw_targets(
     alloc: Global,
     numbers: &mut Numbers,
     number: u32,
 ) -> Result<Vec<SymbolName>, NoMemory>
     ensures targets { IfOk result (λ targets. targets.items ≡ targets_of numbers.old number) }
-    ensures count { IfOk result (λ targets. length targets.items ≡ 65) }
     ensures state { OnOk result (numbers.new ≡ after 65 numbers.old) }
 {
     let values = numbers.draw_all(alloc, DATA_COUNT)?;

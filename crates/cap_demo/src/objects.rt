@@ -42,7 +42,7 @@ impl Model for Body {
 /// Appends zeros up to a multiple of 16.
 #[tactic(auto, unfolding(crate::specs::Objects::aligned, crate::specs::Records::zeros))]
 fn align(bytes: &mut Vec<u8>) -> Result<(), NoMemory>
-    requires { length bytes.old < 2 ^ 32 }
+    requires { length bytes.old.items < 2 ^ 32 }
     ensures value { OnOk result (bytes.new.items ≡ aligned bytes.old.items) }
     ensures short { OnOk result (length bytes.new.items < length bytes.old.items + 16) }
 {
@@ -64,7 +64,7 @@ impl Body {
     }
 
     /// Appends a section with its bytes.
-    #[tactic(auto, unfolding(crate::specs::Objects::with_section))]
+    #[tactic(auto, unfolding(crate::specs::Objects::with_section), using(crate::proofs::Lengths::length_section))]
     fn push(&mut self, section: Section, bytes: &[u8]) -> Result<(), NoMemory>
         requires { length self.old.contents < 2 ^ 32 }
         ensures value { OnOk result (self.new ≡ with_section self.old section bytes.now) }
@@ -80,7 +80,7 @@ impl Body {
 }
 
 /// What the sections of an object hold, and their headers.
-#[tactic(auto, unfolding(crate::specs::Objects::body_of))]
+#[tactic(auto, unfolding(crate::specs::Objects::body_of), using(crate::proofs::Lengths::length_code))]
 fn fill(
     alloc: Global,
     sizes: &[u64],
@@ -109,7 +109,7 @@ fn fill(
 }
 
 /// The file of what its sections hold.
-#[tactic(auto, unfolding(crate::specs::Objects::file_of))]
+#[tactic(auto, unfolding(crate::specs::Objects::file_of), using(crate::proofs::Lengths::length_header))]
 fn file(alloc: Global, mut body: Body) -> Result<Vec<u8>, NoMemory>
     requires contents { length body.contents < 2 ^ 20 }
     requires headers { length body.headers ≡ 384 }
@@ -144,7 +144,7 @@ fn made(
 }
 
 /// Draws an object of a number.
-#[tactic(auto, unfolding(crate::specs::Objects::demo_object, crate::specs::Objects::state_after))]
+#[tactic(auto, unfolding(crate::specs::Objects::demo_object, crate::specs::Objects::state_after), using(crate::proofs::Sizes::sizes_small, crate::proofs::Sizes::targets_count, crate::proofs::Drawing::object_state))]
 fn draw_object(alloc: Global, numbers: &mut Numbers, number: u32) -> Result<Vec<u8>, NoMemory>
     ensures bytes { IfOk result (λ file. file.items ≡ demo_object numbers.old number) }
     ensures short { IfOk result (λ file. length file.items < 2 ^ 26) }

@@ -50,7 +50,7 @@ const STRINGS: u32 = 5;
 /// No fewer bytes hold a symbol's name with its zero byte.
 const LONGEST_NAME: usize = 83;
 
-#[tactic(auto, unfolding(crate::specs::Sections::code_section))]
+#[tactic(auto, unfolding(crate::specs::Sections::code_section, crate::specs::Sections::names_before, crate::specs::Sections::section_names, crate::specs::Sections::ended))]
 pub(crate) fn code_section() -> Section
     ensures { result ≡ code_header }
 {
@@ -65,7 +65,7 @@ pub(crate) fn code_section() -> Section
     }
 }
 
-#[tactic(auto, unfolding(crate::specs::Sections::data_section))]
+#[tactic(auto, unfolding(crate::specs::Sections::data_section, crate::specs::Sections::names_before, crate::specs::Sections::section_names, crate::specs::Sections::ended))]
 pub(crate) fn data_section() -> Section
     ensures { result ≡ data_header }
 {
@@ -80,7 +80,7 @@ pub(crate) fn data_section() -> Section
     }
 }
 
-#[tactic(auto, unfolding(crate::specs::Sections::rela_section))]
+#[tactic(auto, unfolding(crate::specs::Sections::rela_section, crate::specs::Sections::names_before, crate::specs::Sections::section_names, crate::specs::Sections::ended))]
 pub(crate) fn rela_section() -> Section
     ensures { result ≡ rela_header }
 {
@@ -95,7 +95,7 @@ pub(crate) fn rela_section() -> Section
     }
 }
 
-#[tactic(auto, unfolding(crate::specs::Sections::symbol_section))]
+#[tactic(auto, unfolding(crate::specs::Sections::symbol_section, crate::specs::Sections::names_before, crate::specs::Sections::section_names, crate::specs::Sections::ended))]
 pub(crate) fn symbol_section() -> Section
     ensures { result ≡ symbol_header }
 {
@@ -110,7 +110,7 @@ pub(crate) fn symbol_section() -> Section
     }
 }
 
-#[tactic(auto, unfolding(crate::specs::Sections::name_section))]
+#[tactic(auto, unfolding(crate::specs::Sections::name_section, crate::specs::Sections::names_before, crate::specs::Sections::section_names, crate::specs::Sections::ended))]
 pub(crate) fn name_section() -> Section
     ensures { result ≡ name_header }
 {
@@ -136,6 +136,7 @@ pub(crate) fn code_bytes(alloc: Global) -> Result<Vec<u8>, NoMemory>
 }
 
 /// How many bytes the table and the data have.
+#[tactic(auto, using(crate::proofs::Sizes::sum_more))]
 fn data_size(sizes: &[u64]) -> usize
     requires { AreSizes sizes.now }
     ensures value { result ≡ 1040 + sum sizes.now }
@@ -161,6 +162,7 @@ pub(crate) fn data_bytes(alloc: Global, sizes: &[u64]) -> Result<Vec<u8>, NoMemo
 }
 
 /// The relocations: a capability in the table for each target.
+#[tactic(auto, using(crate::proofs::Capabilities::capabilities_more, crate::proofs::Capabilities::capabilities_done, crate::proofs::Lengths::length_capability))]
 pub(crate) fn capabilities(
     alloc: Global,
     symbols: &[Symbol],
@@ -196,7 +198,7 @@ impl Model for NamedSymbols {
 
 impl NamedSymbols {
     /// The null symbol, and the names of the sections. There is room for so many symbols.
-    #[tactic(auto, unfolding(crate::specs::Sections::no_symbols))]
+    #[tactic(auto, unfolding(crate::specs::Sections::no_symbols, crate::specs::Sections::names_before, crate::specs::Sections::section_names, crate::specs::Sections::ended, crate::specs::Records::zeros))]
     fn new(alloc: Global, count: usize) -> Result<NamedSymbols, NoMemory>
         requires { count ≤ 256 }
         ensures value { IfOk result (λ named. named ≡ no_symbols) }
@@ -211,7 +213,7 @@ impl NamedSymbols {
     }
 
     /// Appends a symbol and its name.
-    #[tactic(auto, unfolding(crate::specs::Sections::with_symbol, crate::specs::Sections::ended))]
+    #[tactic(auto, unfolding(crate::specs::Sections::with_symbol, crate::specs::Sections::ended), using(crate::proofs::Lengths::length_symbol))]
     fn push(&mut self, symbol: Symbol) -> Result<(), NoMemory>
         requires { length self.old.names < 2 ^ 32 }
         ensures value { OnOk result (self.new ≡ with_symbol self.old symbol) }
@@ -226,7 +228,7 @@ impl NamedSymbols {
 }
 
 /// The table of symbols, and the names of sections and symbols.
-#[tactic(auto, unfolding(crate::specs::Sections::named_symbols))]
+#[tactic(auto, unfolding(crate::specs::Sections::named_symbols), using(crate::proofs::Folding::fold_more, crate::proofs::Folding::fold_done))]
 pub(crate) fn named_symbols(alloc: Global, symbols: &[Symbol]) -> Result<NamedSymbols, NoMemory>
     requires { length symbols.now ≤ 256 }
     ensures value { IfOk result (λ named. named ≡ named_of symbols.now) }

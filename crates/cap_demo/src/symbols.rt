@@ -89,6 +89,7 @@ fn undefined_symbol(name: SymbolName) -> Symbol
 }
 
 /// The symbols that an object defines.
+#[tactic(auto, using(crate::proofs::Sizes::own_first, crate::proofs::Sizes::data_more, crate::proofs::Sizes::data_done))]
 fn own_symbols(alloc: Global, number: u32, sizes: &[u64]) -> Result<Vec<Symbol>, NoMemory>
     requires { AreSizes sizes.now }
     ensures symbols { IfOk result (λ symbols. symbols.items ≡ own_of number sizes.now) }
@@ -106,7 +107,7 @@ fn own_symbols(alloc: Global, number: u32, sizes: &[u64]) -> Result<Vec<Symbol>,
 }
 
 /// Where the first symbol of a name stands; behind all of them where there is none.
-#[tactic(auto, unfolding(crate::specs::Symbols::place_of))]
+#[tactic(auto, using(crate::proofs::Placing::place_skip, crate::proofs::Placing::place_hit, crate::proofs::Placing::place_none))]
 pub(crate) fn place(symbols: &[Symbol], name: SymbolName) -> usize
     ensures value { result ≡ place_of symbols.now name }
     ensures bound { result ≤ length symbols.now }
@@ -134,7 +135,7 @@ fn add_target(symbols: &mut Vec<Symbol>, target: SymbolName) -> Result<(), NoMem
 }
 
 /// The symbols of an object: its own, and then targets that it doesn't define, in the order of their first use.
-#[tactic(auto, unfolding(crate::specs::Symbols::symbols_of))]
+#[tactic(auto, unfolding(crate::specs::Symbols::symbols_of), using(crate::proofs::Folding::fold_more, crate::proofs::Folding::fold_done))]
 pub(crate) fn symbols(
     alloc: Global,
     number: u32,
