@@ -9,13 +9,14 @@ use Rattle.cap_demo.specs.Symbols.{place_of}
 
 module _ (symbols : List Symbol) (targets : List SymbolName) (i : ℕ) (relas total : List ℕ) where
   -- one more target
-  pub capabilities_more : (at symbol : ℕ) (d : SymbolName) → i < length targets → at ≡ 16 * i → symbol ≡ 1 + place_of symbols (get_or targets i d) → relas ++ capabilities_from (16 * i) symbols (drop i targets) ≡ total → relas ++ capability_bytes at symbol ++ capabilities_from (16 * (i + 1)) symbols (drop (i + 1) targets) ≡ total
+  pub capabilities_more : (at symbol : ℕ) (more : List ℕ) (d : SymbolName) → i < length targets → at ≡ 16 * i → symbol ≡ 1 + place_of symbols (get_or targets i d) → more ≡ relas ++ capability_bytes at symbol → relas ++ capabilities_from (16 * i) symbols (drop i targets) ≡ total → more ++ capabilities_from (16 * (i + 1)) symbols (drop (i + 1) targets) ≡ total
   unfolding capabilities_from
-  capabilities_more at symbol d lt ea es so_far =
+  capabilities_more at symbol more d lt ea es em so_far =
       let one = capability_bytes (16 * i) (1 + place_of symbols (get_or targets i d)) in
       let left = drop (i + 1) targets in
       let behind : 16 * (i + 1) ≡ 16 * i + 16 = omega arith in
-      ap (λ n. relas ++ capability_bytes at symbol ++ capabilities_from n symbols left) behind
+      ap (λ n. more ++ capabilities_from n symbols left) behind
+      ∙ ap (λ bs. bs ++ capabilities_from (16 * i + 16) symbols left) em
       ∙ ap (λ n. relas ++ capability_bytes n symbol ++ capabilities_from (16 * i + 16) symbols left) ea
       ∙ ap (λ n. relas ++ capability_bytes (16 * i) n ++ capabilities_from (16 * i + 16) symbols left) es
       ∙ append_assoc relas one (capabilities_from (16 * i + 16) symbols left)

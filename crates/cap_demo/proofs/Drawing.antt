@@ -10,12 +10,13 @@ pub after_first : (count state : ℕ) → after (count - 0) state ≡ after coun
 after_first count state = let whole : count - 0 ≡ count = omega arith in ap (λ n. after n state) whole
 
 -- one more draw
-pub draws_more : (count i state behind value : ℕ) (values total : List ℕ) → i < count → value ≡ drawn state → behind ≡ next state → values ++ draws (count - i) state ≡ total → values ++ value ∷ [] ++ draws (count - (i + 1)) behind ≡ total
+pub draws_more : (count i state behind value : ℕ) (values more total : List ℕ) → i < count → value ≡ drawn state → behind ≡ next state → more ≡ values ++ value ∷ [] → values ++ draws (count - i) state ≡ total → more ++ draws (count - (i + 1)) behind ≡ total
 unfolding draws
-draws_more count i state behind value values total lt ev eb so_far =
+draws_more count i state behind value values pushed total lt ev eb ep so_far =
     let more : count - i ≡ suc (count - (i + 1)) = omega (arith, lt) in
     let rest = draws (count - (i + 1)) (next state) in
-    ap (λ s. values ++ value ∷ [] ++ draws (count - (i + 1)) s) eb
+    ap (λ s. pushed ++ draws (count - (i + 1)) s) eb
+    ∙ ap (λ vs. vs ++ rest) ep
     ∙ ap (λ v. values ++ v ∷ [] ++ rest) ev
     ∙ append_assoc values (drawn state ∷ []) rest
     ∙ sym (ap (λ n. values ++ draws n state) more)

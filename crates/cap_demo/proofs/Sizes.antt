@@ -18,9 +18,10 @@ size_small value = search arith
 pub sizes_small : (sizes : List ℕ) (state : ℕ) → sizes ≡ sizes_of state → AreSizes sizes
 unfolding sizes_of
 sizes_small sizes state e =
-    let values = draws 64 state in
-    (ap length e ∙ length-map values size_of ∙ length_draws 64 state,
-     All-same (λ s. s ≤ 9000) sizes (map size_of values) e (All-map (λ s. s ≤ 9000) size_of values (λ k d lt. size_small (get_or values k d))))
+    let values = draws 64 state in (
+      ap length e ∙ length-map values size_of ∙ length_draws 64 state,
+      All-same (λ s. s ≤ 9000) sizes (map size_of values) e (All-map (λ s. s ≤ 9000) size_of values (λ k d lt. size_small (get_or values k d))),
+    )
 
 pub targets_count : (targets : List SymbolName) (state number : ℕ) → targets ≡ targets_of state number → length targets ≡ 65
 unfolding targets_of
@@ -38,12 +39,13 @@ unfolding own_symbols
 own_first number sizes symbols e = ap (λ ss. ss ++ data_symbols number 0 1040 sizes) e
 
 -- one more datum
-pub data_more : (number i at end : ℕ) (symbol : Symbol) (sizes : List ℕ) (symbols total : List Symbol) (d : ℕ) → i < length sizes → symbol ≡ datum_symbol number i at (get_or sizes i d) → end ≡ at + get_or sizes i d → symbols ++ data_symbols number i at (drop i sizes) ≡ total → symbols ++ symbol ∷ [] ++ data_symbols number (i + 1) end (drop (i + 1) sizes) ≡ total
+pub data_more : (number i at end : ℕ) (symbol : Symbol) (sizes : List ℕ) (symbols more total : List Symbol) (d : ℕ) → i < length sizes → symbol ≡ datum_symbol number i at (get_or sizes i d) → end ≡ at + get_or sizes i d → more ≡ symbols ++ symbol ∷ [] → symbols ++ data_symbols number i at (drop i sizes) ≡ total → more ++ data_symbols number (i + 1) end (drop (i + 1) sizes) ≡ total
 unfolding data_symbols
-data_more number i at end symbol sizes symbols total d lt es ee so_far =
+data_more number i at end symbol sizes symbols more total d lt es ee em so_far =
     let size = get_or sizes i d in
     let rest = data_symbols number (i + 1) (at + size) (drop (i + 1) sizes) in
-    ap (λ n. symbols ++ symbol ∷ [] ++ data_symbols number (i + 1) n (drop (i + 1) sizes)) ee
+    ap (λ n. more ++ data_symbols number (i + 1) n (drop (i + 1) sizes)) ee
+    ∙ ap (λ ss. ss ++ rest) em
     ∙ ap (λ s. symbols ++ s ∷ [] ++ rest) es
     ∙ append_assoc symbols (datum_symbol number i at size ∷ []) rest
     ∙ sym (ap (λ ss. symbols ++ data_symbols number i at ss) (drop_more sizes i d lt))

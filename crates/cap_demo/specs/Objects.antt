@@ -32,13 +32,17 @@ with_section body section bytes =
       headers = body.headers ++ section_header section (64 + length before) (length bytes);
     }
 
+-- the sections: code, data, relocations, symbols and names
+unfoldable pub filled : List ℕ → List ℕ → NamedSymbols → Body
+filled bytes relas named =
+    let code = with_section no_sections code_section code_bytes in
+    let behind_data = with_section code data_section bytes in
+    let behind_relas = with_section behind_data rela_section relas in
+    with_section (with_section behind_relas symbol_section named.table) name_section named.names
+
 unfoldable pub body_of : List ℕ → List Symbol → List SymbolName → Body
 body_of sizes symbols targets =
-    let named = named_symbols symbols in
-    let code = with_section no_sections code_section code_bytes in
-    let «data» = with_section code data_section (data_bytes sizes) in
-    let relas = with_section «data» rela_section (capabilities_from 0 symbols targets) in
-    with_section (with_section relas symbol_section named.table) name_section named.names
+    filled (data_bytes sizes) (capabilities_from 0 symbols targets) (named_symbols symbols)
 
 -- the file: its header, what the sections hold, and their headers
 unfoldable pub file_of : Body → List ℕ

@@ -56,7 +56,7 @@ impl Numbers {
     }
 
     /// Draws so many numbers.
-    #[tactic(auto, using(crate::proofs::Drawing::draws_first, crate::proofs::Drawing::after_first, crate::proofs::Drawing::draws_more, crate::proofs::Drawing::after_more, crate::proofs::Drawing::draws_done, crate::proofs::Drawing::after_done))]
+    #[tactic(auto, using(crate::proofs::Drawing::draws_first, crate::proofs::Drawing::after_first))]
     pub(crate) fn draw_all(&mut self, alloc: Global, count: u32) -> Result<Vec<u32>, NoMemory>
         ensures values { IfOk result (λ values. values.items ≡ draws count self.old) }
         ensures state { OnOk result (self.new ≡ after count self.old) }

@@ -2,15 +2,15 @@
 
 ghost use Rattle.std.specs.Prelude.{◌≡◌, ◌+◌, ◌*◌, ◌<◌, ◌≤◌, ◌^◌, ◌++◌, length, IfOk, OnOk, OnErr};
 ghost use Rattle.cap_demo.specs.Choices.{AreSizes};
-ghost use Rattle.cap_demo.specs.Objects.{Body as BodyValue, aligned, no_sections, with_section, body_of, file_of, object_of, demo_object, state_after};
+ghost use Rattle.cap_demo.specs.Objects.{Body as BodyValue, aligned, no_sections, with_section, filled, body_of, file_of, object_of, demo_object, state_after};
 
 use crate::choices::{draw_sizes, draw_targets};
 use crate::names::SymbolName;
 use crate::numbers::Numbers;
 use crate::records::{Section, push_file_header, push_section};
 use crate::sections::{
-    capabilities, code_bytes, code_section, data_bytes, data_section, name_section, named_symbols,
-    rela_section, symbol_section,
+    NamedSymbols, capabilities, code_bytes, code_section, data_bytes, data_section, name_section,
+    named_symbols, rela_section, symbol_section,
 };
 use crate::symbols::{Symbol, symbols};
 use cap_base::NoMemory;
@@ -42,7 +42,6 @@ impl Model for Body {
 /// Appends zeros up to a multiple of 16.
 #[tactic(auto, unfolding(crate::specs::Objects::aligned, crate::specs::Records::zeros))]
 fn align(bytes: &mut Vec<u8>) -> Result<(), NoMemory>
-    requires { length bytes.old.items < 2 ^ 32 }
     ensures value { OnOk result (bytes.new.items ≡ aligned bytes.old.items) }
     ensures short { OnOk result (length bytes.new.items < length bytes.old.items + 16) }
 {
@@ -55,7 +54,9 @@ impl Body {
     /// The header of section 0. There is room for contents of such a size.
     #[tactic(auto, unfolding(crate::specs::Objects::no_sections, crate::specs::Records::zeros))]
     fn new(alloc: Global, size: usize) -> Result<Body, NoMemory>
-        ensures { IfOk result (λ body. body ≡ no_sections) }
+        ensures value { IfOk result (λ body. body ≡ no_sections) }
+        ensures contents { IfOk result (λ body. length body.contents ≡ 0) }
+        ensures headers { IfOk result (λ body. length body.headers ≡ 64) }
     {
         let contents = Vec::with_capacity(alloc, size)?;
         let mut headers = Vec::with_capacity(alloc, SECTION_COUNT * HEADER_SIZE)?;
@@ -66,22 +67,48 @@ impl Body {
     /// Appends a section with its bytes.
     #[tactic(auto, unfolding(crate::specs::Objects::with_section), using(crate::proofs::Lengths::length_section))]
     fn push(&mut self, section: Section, bytes: &[u8]) -> Result<(), NoMemory>
-        requires { length self.old.contents < 2 ^ 32 }
         ensures value { OnOk result (self.new ≡ with_section self.old section bytes.now) }
         ensures contents { OnOk result (length self.new.contents < length self.old.contents + 16 + length bytes.now) }
         ensures headers { OnOk result (length self.new.headers ≡ length self.old.headers + 64) }
     {
         align(&mut self.contents)?;
         let offset = HEADER_SIZE + self.contents.len();
-        push_section(&mut self.headers, section, offset as u64, bytes.len() as u64)?;
+        push_section(
+            &mut self.headers,
+            section,
+            offset as u64,
+            bytes.len() as u64,
+        )?;
         self.contents.extend_from_slice(bytes)?;
         Ok(())
     }
 }
 
+/// The sections: code, these data and relocations, symbols and names.
+#[tactic(auto, unfolding(crate::specs::Objects::filled), using(crate::proofs::Lengths::length_code))]
+fn fill(alloc: Global, data: &[u8], relas: &[u8], named: &NamedSymbols) -> Result<Body, NoMemory>
+    requires data { length data.now < 2 ^ 20 }
+    requires relas { length relas.now < 2 ^ 20 }
+    requires table { length named.now.table < 2 ^ 20 }
+    requires names { length named.now.names < 2 ^ 20 }
+    ensures value { IfOk result (λ body. body ≡ filled data.now relas.now named.now) }
+    ensures contents { IfOk result (λ body. length body.contents < 100 + length data.now + length relas.now + length named.now.table + length named.now.names) }
+    ensures headers { IfOk result (λ body. length body.headers ≡ 384) }
+{
+    let code = code_bytes(alloc)?;
+    let size = code.len() + data.len() + relas.len() + named.table.len() + named.names.len();
+    let mut body = Body::new(alloc, size + SECTION_COUNT * SECTION_ALIGN)?;
+    body.push(code_section(), &code)?;
+    body.push(data_section(), data)?;
+    body.push(rela_section(), relas)?;
+    body.push(symbol_section(), &named.table)?;
+    body.push(name_section(), &named.names)?;
+    Ok(body)
+}
+
 /// What the sections of an object hold, and their headers.
-#[tactic(auto, unfolding(crate::specs::Objects::body_of), using(crate::proofs::Lengths::length_code))]
-fn fill(
+#[tactic(auto, unfolding(crate::specs::Objects::body_of))]
+fn sections(
     alloc: Global,
     sizes: &[u64],
     symbols: &[Symbol],
@@ -94,18 +121,10 @@ fn fill(
     ensures contents { IfOk result (λ body. length body.contents < 2 ^ 20) }
     ensures headers { IfOk result (λ body. length body.headers ≡ 384) }
 {
-    let code = code_bytes(alloc)?;
     let data = data_bytes(alloc, sizes)?;
     let relas = capabilities(alloc, symbols, targets)?;
     let named = named_symbols(alloc, symbols)?;
-    let size = code.len() + data.len() + relas.len() + named.table.len() + named.names.len();
-    let mut body = Body::new(alloc, size + SECTION_COUNT * SECTION_ALIGN)?;
-    body.push(code_section(), &code)?;
-    body.push(data_section(), &data)?;
-    body.push(rela_section(), &relas)?;
-    body.push(symbol_section(), &named.table)?;
-    body.push(name_section(), &named.names)?;
-    Ok(body)
+    fill(alloc, &data, &relas, &named)
 }
 
 /// The file of what its sections hold.
@@ -139,7 +158,7 @@ fn made(
     ensures short { IfOk result (λ file. length file.items < 2 ^ 26) }
 {
     let symbols = symbols(alloc, number, sizes, targets)?;
-    let body = fill(alloc, sizes, &symbols, targets)?;
+    let body = sections(alloc, sizes, &symbols, targets)?;
     file(alloc, body)
 }
 

@@ -135,11 +135,7 @@ pub(crate) fn push_section(
 
 /// Appends a symbol whose name begins at an offset of the names.
 #[tactic(auto, unfolding(crate::specs::Records::symbol_bytes))]
-pub(crate) fn push_symbol(
-    table: &mut Vec<u8>,
-    name_at: u32,
-    symbol: Symbol,
-) -> Result<(), NoMemory>
+pub(crate) fn push_symbol(table: &mut Vec<u8>, name_at: u32, symbol: Symbol) -> Result<(), NoMemory>
     ensures { OnOk result (table.new.items ≡ table.old.items ++ symbol_bytes name_at symbol) }
 {
     push_u32(table, name_at)?;

@@ -162,7 +162,6 @@ pub(crate) fn data_bytes(alloc: Global, sizes: &[u64]) -> Result<Vec<u8>, NoMemo
 }
 
 /// The relocations: a capability in the table for each target.
-#[tactic(auto, using(crate::proofs::Capabilities::capabilities_more, crate::proofs::Capabilities::capabilities_done, crate::proofs::Lengths::length_capability))]
 pub(crate) fn capabilities(
     alloc: Global,
     symbols: &[Symbol],

@@ -89,7 +89,7 @@ fn undefined_symbol(name: SymbolName) -> Symbol
 }
 
 /// The symbols that an object defines.
-#[tactic(auto, using(crate::proofs::Sizes::own_first, crate::proofs::Sizes::data_more, crate::proofs::Sizes::data_done))]
+#[tactic(auto, using(crate::proofs::Sizes::own_first))]
 fn own_symbols(alloc: Global, number: u32, sizes: &[u64]) -> Result<Vec<Symbol>, NoMemory>
     requires { AreSizes sizes.now }
     ensures symbols { IfOk result (λ symbols. symbols.items ≡ own_of number sizes.now) }
