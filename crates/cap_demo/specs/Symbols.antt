@@ -1,5 +1,5 @@
 -- The symbols of an object.
-use Rattle.std.specs.Prelude.{ℕ, ◌+◌, Bool, nat_lt, if◌then◌else◌, List, [], ◌∷◌, ◌++◌, length, fold}
+use Rattle.std.specs.Prelude.{ℕ, ◌+◌, nat_lt, if◌then◌else◌, List, [], ◌∷◌, ◌++◌, length, fold}
 use Rattle.std.specs.List.{position_or_len}
 use Rattle.cap_demo.specs.declared.names.SymbolName.{SymbolName}
 use Rattle.cap_demo.specs.declared.names.SymbolName.TheVariants.{Function, Table, Datum}
