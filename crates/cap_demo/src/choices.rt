@@ -1,6 +1,6 @@
 //! What the numbers choose for an object.
 
-ghost use Rattle.std.specs.Prelude.{◌≡◌, ◌≤◌, ◌<◌, ◌+◌, map, length, All, IfOk, OnOk};
+ghost use Rattle.std.specs.Prelude.{◌≡◌, ◌<◌, IfOk, OnOk};
 ghost use Rattle.cap_demo.specs.Choices.{size_of, known_objects as known_of, data_target, function_target, sizes_of, targets_of};
 ghost use Rattle.cap_demo.specs.Numbers.{after};
 

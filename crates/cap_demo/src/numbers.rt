@@ -1,6 +1,6 @@
 //! A linear congruential generator.
 
-ghost use Rattle.std.specs.Prelude.{◌≡◌, ◌<◌, ◌^◌, IfOk, OnOk};
+ghost use Rattle.std.specs.Prelude.{◌≡◌, IfOk, OnOk};
 ghost use Rattle.cap_demo.specs.Numbers.{next, drawn, after, draws};
 
 use cap_base::NoMemory;

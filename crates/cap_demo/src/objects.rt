@@ -1,8 +1,8 @@
 //! The objects.
 
-ghost use Rattle.std.specs.Prelude.{◌≡◌, ◌+◌, ◌*◌, ◌<◌, ◌≤◌, ◌^◌, ◌++◌, length, IfOk, OnOk, OnErr};
+ghost use Rattle.std.specs.Prelude.{◌≡◌, ◌+◌, ◌<◌, ◌≤◌, ◌^◌, length, IfOk, OnOk, OnErr};
 ghost use Rattle.cap_demo.specs.Choices.{AreSizes};
-ghost use Rattle.cap_demo.specs.Objects.{Body as BodyValue, aligned, no_sections, with_section, filled, body_of, file_of, object_of, demo_object, state_after};
+ghost use Rattle.cap_demo.specs.Objects.{aligned, no_sections, with_section, filled, body_of, file_of, object_of, demo_object, state_after};
 
 use crate::choices::{draw_sizes, draw_targets};
 use crate::names::SymbolName;
@@ -84,22 +84,22 @@ impl Body {
     }
 }
 
-/// The sections: code, these data and relocations, symbols and names.
+/// The sections: code, data of these bytes, relocations, symbols and names.
 #[tactic(auto, unfolding(crate::specs::Objects::filled), using(crate::proofs::Lengths::length_code))]
-fn fill(alloc: Global, data: &[u8], relas: &[u8], named: &NamedSymbols) -> Result<Body, NoMemory>
-    requires data { length data.now < 2 ^ 20 }
+fn fill(alloc: Global, bytes: &[u8], relas: &[u8], named: &NamedSymbols) -> Result<Body, NoMemory>
+    requires bytes { length bytes.now < 2 ^ 20 }
     requires relas { length relas.now < 2 ^ 20 }
     requires table { length named.now.table < 2 ^ 20 }
     requires names { length named.now.names < 2 ^ 20 }
-    ensures value { IfOk result (λ body. body ≡ filled data.now relas.now named.now) }
-    ensures contents { IfOk result (λ body. length body.contents < 100 + length data.now + length relas.now + length named.now.table + length named.now.names) }
+    ensures value { IfOk result (λ body. body ≡ filled bytes.now relas.now named.now) }
+    ensures contents { IfOk result (λ body. length body.contents < 100 + length bytes.now + length relas.now + length named.now.table + length named.now.names) }
     ensures headers { IfOk result (λ body. length body.headers ≡ 384) }
 {
     let code = code_bytes(alloc)?;
-    let size = code.len() + data.len() + relas.len() + named.table.len() + named.names.len();
+    let size = code.len() + bytes.len() + relas.len() + named.table.len() + named.names.len();
     let mut body = Body::new(alloc, size + SECTION_COUNT * SECTION_ALIGN)?;
     body.push(code_section(), &code)?;
-    body.push(data_section(), data)?;
+    body.push(data_section(), bytes)?;
     body.push(rela_section(), relas)?;
     body.push(symbol_section(), &named.table)?;
     body.push(name_section(), &named.names)?;
@@ -121,10 +121,10 @@ fn sections(
     ensures contents { IfOk result (λ body. length body.contents < 2 ^ 20) }
     ensures headers { IfOk result (λ body. length body.headers ≡ 384) }
 {
-    let data = data_bytes(alloc, sizes)?;
+    let bytes = data_bytes(alloc, sizes)?;
     let relas = capabilities(alloc, symbols, targets)?;
     let named = named_symbols(alloc, symbols)?;
-    fill(alloc, &data, &relas, &named)
+    fill(alloc, &bytes, &relas, &named)
 }
 
 /// The file of what its sections hold.

@@ -1,6 +1,6 @@
 //! The records of an object, each appended to it.
 
-ghost use Rattle.std.specs.Prelude.{◌≡◌, ◌+◌, ◌<◌, ◌^◌, ◌++◌, length, OnOk};
+ghost use Rattle.std.specs.Prelude.{◌≡◌, ◌+◌, ◌++◌, OnOk};
 ghost use Rattle.cap_demo.specs.Records.{field_bytes, ident, sizes_header, file_header, section_header, symbol_bytes, capability_bytes};
 
 use crate::symbols::Symbol;

@@ -1,8 +1,8 @@
 //! What the sections of an object hold, and their headers.
 
-ghost use Rattle.std.specs.Prelude.{◌≡◌, ◌+◌, ◌*◌, ◌<◌, ◌≤◌, ◌^◌, ◌++◌, length, sum, IfOk, OnOk};
+ghost use Rattle.std.specs.Prelude.{◌≡◌, ◌+◌, ◌*◌, ◌<◌, ◌≤◌, ◌^◌, length, sum, IfOk, OnOk};
 ghost use Rattle.cap_demo.specs.Choices.{AreSizes};
-ghost use Rattle.cap_demo.specs.Sections.{NamedSymbols as NamedValue, code_bytes as code_of, data_bytes as data_of, capabilities_from, names_before, with_symbol, no_symbols, named_symbols as named_of, code_section as code_header, data_section as data_header, rela_section as rela_header, symbol_section as symbol_header, name_section as name_header};
+ghost use Rattle.cap_demo.specs.Sections.{code_bytes as code_of, data_bytes as data_of, capabilities_from, with_symbol, no_symbols, named_symbols as named_of, code_section as code_header, data_section as data_header, rela_section as rela_header, symbol_section as symbol_header, name_section as name_header};
 
 use crate::names::SymbolName;
 use crate::records::{Section, push_capability, push_symbol, push_u32};
@@ -47,7 +47,15 @@ const DATA: u32 = 2;
 const SYMBOLS: u32 = 4;
 
 const STRINGS: u32 = 5;
-/// No fewer bytes hold a symbol's name with its zero byte.
+/// How code, records and names are aligned; data as a capability is.
+const CODE_ALIGN: u64 = 4;
+
+const RECORD_ALIGN: u64 = 8;
+
+const BYTE_ALIGN: u64 = 1;
+/// The first symbol that isn't local: only the null symbol is.
+const FIRST_GLOBAL: u32 = 1;
+/// No name of a symbol has more bytes, with its zero byte.
 const LONGEST_NAME: usize = 83;
 
 #[tactic(auto, unfolding(crate::specs::Sections::code_section, crate::specs::Sections::names_before, crate::specs::Sections::section_names, crate::specs::Sections::ended))]
@@ -60,7 +68,7 @@ pub(crate) fn code_section() -> Section
         flags: RUN,
         link: 0,
         info: 0,
-        align: 4,
+        align: CODE_ALIGN,
         entry: 0,
     }
 }
@@ -90,7 +98,7 @@ pub(crate) fn rela_section() -> Section
         flags: 0,
         link: SYMBOLS,
         info: DATA,
-        align: 8,
+        align: RECORD_ALIGN,
         entry: RECORD_SIZE as u64,
     }
 }
@@ -104,8 +112,8 @@ pub(crate) fn symbol_section() -> Section
         kind: SHT_SYMTAB,
         flags: 0,
         link: STRINGS,
-        info: 1,
-        align: 8,
+        info: FIRST_GLOBAL,
+        align: RECORD_ALIGN,
         entry: RECORD_SIZE as u64,
     }
 }
@@ -120,7 +128,7 @@ pub(crate) fn name_section() -> Section
         flags: 0,
         link: 0,
         info: 0,
-        align: 1,
+        align: BYTE_ALIGN,
         entry: 0,
     }
 }

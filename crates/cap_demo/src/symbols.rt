@@ -1,9 +1,8 @@
 //! The symbols of an object.
 
-ghost use Rattle.std.specs.Prelude.{◌≡◌, ◌+◌, ◌*◌, ◌<◌, ◌≤◌, length, sum, IfOk, OnOk};
-ghost use Rattle.cap_demo.specs.Names.{same_name};
+ghost use Rattle.std.specs.Prelude.{◌≡◌, ◌+◌, ◌≤◌, length, IfOk, OnOk};
 ghost use Rattle.cap_demo.specs.Choices.{AreSizes};
-ghost use Rattle.cap_demo.specs.Symbols.{function_symbol as function_of, table_symbol as table_of, datum_symbol as datum_of, undefined_symbol as undefined_of, data_symbols, own_symbols as own_of, place_of, with_target, symbols_of};
+ghost use Rattle.cap_demo.specs.Symbols.{function_symbol as function_of, table_symbol as table_of, datum_symbol as datum_of, undefined_symbol as undefined_of, own_symbols as own_of, place_of, with_target, symbols_of};
 
 use crate::names::SymbolName;
 use cap_base::NoMemory;
