@@ -1,0 +1,6 @@
+mod Capabilities
+mod Drawing
+mod Folding
+mod Lengths
+mod Placing
+mod Sizes
