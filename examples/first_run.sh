@@ -1,6 +1,6 @@
 #!/usr/bin/env bash
-# Builds the program, loads a program with a library and a library that is opened later, shows the image, and compares
-# what is seen with what should be seen.
+# Builds the program, links a program and two libraries from relocatable objects, loads them, shows the image, and
+# compares what is seen with what should be seen.
 set -u
 cd "$(dirname "$0")/.." || exit 2
 root=$PWD
@@ -13,14 +13,19 @@ if ! (cd crates/purecap && rt run -- show data/i) > "$folder/log" 2>&1; then
     exit 1
 fi
 
-python3 examples/make_program.py "$folder" || exit 1
+python3 examples/make_objects.py "$folder" || exit 1
 cd "$folder" || exit 2
-echo "\$ purecap load -o app.img app open:libplugin.so"
-"$root/crates/purecap/out/purecap" load -o app.img app open:libplugin.so || exit 1
-echo "\$ purecap show app.img"
-"$root/crates/purecap/out/purecap" show app.img > shown || exit 1
+run() {
+    echo "\$ purecap $*"
+    "$root/crates/purecap/out/purecap" "$@" || exit 1
+}
+run link -o libgreet.so --shared libgreet.so greet.o
+run link -o libplugin.so --shared libplugin.so plugin.o libgreet.so
+run link -o app main.o counter.o libgreet.so
+run load -o app.img app open:libplugin.so
+run show app.img > shown
 cat shown
-if cmp -s shown "$root/examples/app.txt"; then
+if tail -n +2 shown | cmp -s - "$root/examples/app.txt"; then
     echo "as it should be"
 else
     echo "this differs from examples/app.txt"
