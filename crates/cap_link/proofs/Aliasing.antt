@@ -143,7 +143,7 @@ why-one laid t u piece a b (inr h) (inr g) =
     inl (sym x.0 ∙ y.0, sym x.1 ∙ y.1)
 
 not-empty : (laid : Laid) (value size : ℕ) → IsEmptyIn laid (value, size) → 0 < size → ⊥
-not-empty laid value size h some = let none = h.none in omega (arith, none, some)
+not-empty laid value size h some = let none : size ≡ 0 = h.none in omega (arith, none, some)
 
 bounded-one : (laid : Laid) → IsExactlyLaid laid → (t u : Target) (value size : ℕ) → IsMeaning laid.rels t → IsMeaning laid.rels u → 0 < size
     → IsBoundedBy laid t.file t.symbol (value, size) → IsBoundedBy laid u.file u.symbol (value, size) → IsSameSymbol t u ⊎ AreAliases t u

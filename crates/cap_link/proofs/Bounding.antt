@@ -4,7 +4,7 @@ use Rattle.std.specs.Prelude.{slice_index_or, IfSome, nat_le, ◌&&◌, ◌||◌
 use Rattle.std.specs.Option.{option_map, option_map_or, option_or}
 use Rattle.std.specs.List.{AllByRecursion}
 use Rattle.std.proofs.lemmas.Bool.{cases_lt, and_parts}
-use Rattle.std.proofs.lemmas.List.{get_or_default}
+use Rattle.std.proofs.lemmas.List.{get_or_past}
 use Rattle.std.proofs.lemmas.List.Quantifiers.{position-Some}
 use Rattle.cap_elf.specs.declared.records.Class.{Class}
 use Rattle.cap_elf.specs.declared.records.Class.TheVariants.{Ro, Code, Init, Fini, Relro, Data, Bss, Dropped}
@@ -175,7 +175,7 @@ in-section laid sound file symbol section e array =
     (placed.1.label array).1
 
 inside-or : {X : Type 0} (xs : List X) (i : ℕ) (d : X) → (i < length xs) ⊎ (slice_index_or xs i d ≡ d)
-inside-or xs i d = ⊎_elim (λ (lt : i < length xs). inl lt) (λ (le : length xs ≤ i). inr (get_or_default xs i d d le)) (cases_lt i (length xs))
+inside-or xs i d = ⊎_elim (λ (lt : i < length xs). inl lt) (λ (le : length xs ≤ i). inr (get_or_past xs i d le)) (cases_lt i (length xs))
 
 abbrev pub IsThere : List RelObject → ℕ → ℕ → Type 0
 IsThere rels file symbol = (file < length rels) × (symbol < length (file_of rels file).symbols)
@@ -244,7 +244,7 @@ common-one laid sound file symbol (Some i) f =
 common-bounded : (laid : Laid) → IsSoundly laid → (file symbol : ℕ) → IfSome (option_map (piece_interval laid) (common_index laid.pieces.all file symbol)) (IsBoundedBy laid file symbol)
 common-bounded laid sound file symbol =
     common-one laid sound file symbol (common_index laid.pieces.all file symbol)
-    (λ i e. let h = position-Some (is_common_of file symbol) laid.pieces.all i no_piece e in (h.0, h.1.0))
+    (λ i e. let h = position-Some (is_common_of file symbol) laid.pieces.all i no_piece e in (h.0, h.1))
 
 placed-bounded : (laid : Laid) → IsSoundly laid → (file symbol : ℕ) (place : Place) → (symbol_at laid file symbol).place ≡ place → is_code (class_of_place (file_of laid.rels file) place) ≡ false
     → IfSome (placed_interval laid file symbol (symbol_at laid file symbol) place) (IsBoundedBy laid file symbol)

@@ -1,6 +1,6 @@
 -- In a linked file the bounds of data and of code are exact wherever it is loaded, and those of data lie apart.
-use Rattle.std.proofs.Common.{◌≡◌, ℕ, ◌+◌, ◌-◌, ◌*◌, ◌%◌, ◌≤◌, ◌<◌, min, max, Bool, true, false, not, cond, List, [], ◌∷◌, ◌++◌, length, map, refl, sym, ap, ◌∙◌, subst, arith, ◌⊎◌, inl, inr, ⊎_elim, Option, Some, None, lt_trans}
-use Rattle.std.specs.Prelude.{All, AllPairs, IfSome, filter, nat_lt, ◌&&◌}
+use Rattle.std.proofs.Common.{◌≡◌, ℕ, ◌+◌, ◌-◌, ◌*◌, ◌%◌, ◌≤◌, ◌<◌, min, max, Bool, true, false, not, cond, List, [], ◌∷◌, ◌++◌, length, map, refl, sym, ap, ◌∙◌, subst, arith, ◌⊎◌, inl, inr, ⊎_elim, Option, Some, None}
+use Rattle.std.specs.Prelude.{All, AllPairs, IfSome, filter, slice_index_or, nat_lt, ◌&&◌}
 use Rattle.std.specs.Int.{next_multiple_of}
 use Rattle.std.specs.List.{reduce, AllByRecursion}
 use Rattle.std.proofs.lemmas.Bool.{cases_order}
@@ -12,7 +12,7 @@ use Rattle.cap_elf.specs.DynView.{DynRecords}
 use Rattle.cap_elf.specs.Ends.{end_of, writes, has_memory}
 use Rattle.cap_elf.specs.IsRelRead.{IsRelRead}
 use Rattle.cap_elf.specs.RelObject.{RelObject}
-use Rattle.cap_emit.specs.Records.{segments_of}
+use Rattle.cap_emit.specs.Records.{segment_from, segments_of}
 use Rattle.cap_fits.specs.Fits.{Fits, Apart, IsOneOrApart, data_intervals}
 use Rattle.cap_fits.specs.Places.{hull, unless_empty, code_range}
 use Rattle.cap_syms.specs.IsResolved.{IsResolved}
@@ -90,7 +90,7 @@ data-within laid exact x (inl h) = subst (λ (y : ℕ × ℕ). y.0 + y.1 ≤ lai
 data-within laid exact x (inr h) = let none = h.none in let within = h.within in omega (arith, none, within)
 
 all-pairs : {X : Type 0} (P : X → Type 0) (R : X → X → Type 0) (xs : List X) → ((x y : X) → P x → P y → R x y) → AllByRecursion P xs → AllPairs R xs
-all-pairs P R xs f h i j d lt inside = f _ _ (held-at P xs i d (lt_trans lt inside) h) (held-at P xs j d inside h)
+all-pairs P R xs f h i j d lt inside = f (slice_index_or xs i d) (slice_index_or xs j d) (held-at P xs i d (omega (arith, lt, inside)) h) (held-at P xs j d inside h)
 
 next-above : (x y : ℕ) → x ≤ next_multiple_of x y
 next-above x y = omega arith
@@ -116,8 +116,9 @@ part_of s = (s.vaddr, end_of s)
 
 abbrev pub parts_if : Bool → Bool → Bool → Parts → List (ℕ × ℕ)
 parts_if read run fixed at =
-    let run_part : ℕ × ℕ = (at.code_start, at.code_start + (at.code_end - at.code_start)) in
-    cond read ((0, 0 + (at.ro_end - 0)) ∷ cond run (run_part ∷ []) []) (cond run (run_part ∷ []) []) ++ cond fixed ((at.table_start, at.table_end) ∷ []) []
+    let first = segment_from 4 at.align 0 at.ro_end at.ro_end in
+    let second = segment_from 5 at.align at.code_start at.code_end at.code_end in
+    map part_of (cond read (first ∷ cond run (second ∷ []) []) (cond run (second ∷ []) [])) ++ cond fixed ((at.table_start, at.table_end) ∷ []) []
 
 range-with : (run : Bool) (at : Parts) (count : ℕ) → AreLaid at count → reduce hull (parts_if true run true at) ≡ Some (0, at.table_end)
 range-with true at count h =
