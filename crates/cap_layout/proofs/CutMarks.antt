@@ -186,18 +186,18 @@ none_inside a b test [] h = refl
 none_inside a b test (t ∷ ss) h = by (test t) refl (none_inside a b test ss h.1)
   where
     by : (c : Bool) → test t ≡ c → list_any (is_inside a b) (flat_map two (filter test ss)) ≡ false → list_any (is_inside a b) (flat_map two (cond c (t ∷ filter test ss) (filter test ss))) ≡ false
-    by true yes rest =
-        let both = h.0 yes in
+    by true passes rest =
+        let both = h.0 passes in
         ap (λ x. x || (is_inside a b (t.value + t.size) || list_any (is_inside a b) (flat_map two (filter test ss)))) (outside a b t.value both.0)
         ∙ ap (λ x. x || list_any (is_inside a b) (flat_map two (filter test ss))) (outside a b (t.value + t.size) both.1)
         ∙ rest
-    by false no rest = rest
+    by false out rest = rest
 
 -- both ends of a cut are among the ends
 has_ends : (test : Symbol → Bool) (ss : List Symbol) (i : ℕ) (d : Symbol) → i < length ss → test (get_or ss i d) ≡ true → Has (flat_map two (filter test ss)) (get_or ss i d).value × Has (flat_map two (filter test ss)) ((get_or ss i d).value + (get_or ss i d).size)
-has_ends test [] i d lt yes = absurd (omega (arith, lt))
-has_ends test (t ∷ ss) zero d lt yes =
-    subst (λ c. Has (flat_map two (cond c (t ∷ filter test ss) (filter test ss))) t.value × Has (flat_map two (cond c (t ∷ filter test ss) (filter test ss))) (t.value + t.size)) (sym yes) (
+has_ends test [] i d lt passes = absurd (omega (arith, lt))
+has_ends test (t ∷ ss) zero d lt passes =
+    subst (λ c. Has (flat_map two (cond c (t ∷ filter test ss) (filter test ss))) t.value × Has (flat_map two (cond c (t ∷ filter test ss) (filter test ss))) (t.value + t.size)) (sym passes) (
       ap (λ x. x || (((t.value + t.size) == t.value) || list_any (λ k. k == t.value) (flat_map two (filter test ss)))) (eq-eqb t.value t.value refl),
       second (t.value == (t.value + t.size)) ((t.value + t.size) == (t.value + t.size)) (list_any (λ k. k == (t.value + t.size)) (flat_map two (filter test ss))) (eq-eqb (t.value + t.size) (t.value + t.size) refl),
     )
@@ -206,7 +206,7 @@ has_ends test (t ∷ ss) zero d lt yes =
     second true y z h = refl
     second false true z h = refl
     second false false z h = absurd cc
-has_ends test (t ∷ ss) (suc i) d lt yes = by (test t) (has_ends test ss i d (omega (arith, lt)) yes)
+has_ends test (t ∷ ss) (suc i) d lt passes = by (test t) (has_ends test ss i d (omega (arith, lt)) passes)
   where
     more : (x y z : Bool) → z ≡ true → (x || (y || z)) ≡ true
     more true y z h = refl

@@ -218,7 +218,7 @@ cuts_are_pieces rels table pieces file section symbol read resolved accepted kno
           piece = k;
           inside = inside;
           found = found_at all (length front) (map section_classes rels) (ordered rels table read resolved) k lt file section s.value inside (ap (λ q. q.file) at) (ap (λ q. q.place) at) (ap (λ q. q.start) at) (subst (λ n. 0 < n) (sym (ap (λ q. q.size) at ∙ whole)) some);
-          is = subst (IsPieceOfSymbol rels file section s) (sym at) (record { file = refl; section = refl; common = refl; class = refl; start = refl; size = whole });
+          is = subst (IsPieceOfSymbol rels file section s) (sym at) (record { in_file = refl; in_section = refl; not_common = refl; class = refl; start = refl; size = whole });
         }
 
 -- ---- layouts

@@ -31,9 +31,9 @@ LayoutsAreExact =
 
 -- the piece is the part of a section that the symbol names: it has the symbol's start and size
 pub record IsPieceOfSymbol (rels : List RelObject) (file section : ℕ) (s : Symbol) (p : Piece) : Type 0 where
-  pub file : p.file ≡ file
-  pub section : p.place ≡ section
-  pub common : p.common ≡ false
+  pub in_file : p.file ≡ file
+  pub in_section : p.place ≡ section
+  pub not_common : p.common ≡ false
   pub class : p.class ≡ (section_of (file_of rels file) section).class
   pub start : p.start ≡ s.value
   pub size : p.size ≡ s.size
