@@ -122,9 +122,9 @@ cut-aliases laid t u piece a b h g =
     let q = g.1.1 in
     record {
       section = h.0;
-      file = sym p.file ∙ q.file;
+      file = sym p.in_file ∙ q.in_file;
       first = ap (λ (s : Symbol). s.place) a.as_is ∙ h.1.0;
-      second = ap (λ (s : Symbol). s.place) b.as_is ∙ g.1.0 ∙ ap (λ (n : ℕ). places.Section n) (sym q.section ∙ p.section);
+      second = ap (λ (s : Symbol). s.place) b.as_is ∙ g.1.0 ∙ ap (λ (n : ℕ). places.Section n) (sym q.in_section ∙ p.in_section);
       value = ap (λ (s : Symbol). s.value) a.as_is ∙ sym p.start ∙ q.start ∙ sym (ap (λ (s : Symbol). s.value) b.as_is);
       size = ap (λ (s : Symbol). s.size) a.as_is ∙ sym p.size ∙ q.size ∙ sym (ap (λ (s : Symbol). s.size) b.as_is);
     }
@@ -133,9 +133,9 @@ why-one : (laid : Laid) (t u : Target) (piece : ℕ) → IsMeaning laid.rels t �
     → IsCutBy laid u.file u.symbol piece ⊎ IsCommonBy laid u.file u.symbol piece → IsSameSymbol t u ⊎ AreAliases t u
 why-one laid t u piece a b (inl h) (inl g) = inr (cut-aliases laid t u piece a b h g)
 why-one laid t u piece a b (inl h) (inr g) =
-    let p = piece_of laid.pieces.all piece in absurd (not-both p.common (common-is p u.file u.symbol g).0 h.1.1.common)
+    let p = piece_of laid.pieces.all piece in absurd (not-both p.common (common-is p u.file u.symbol g).0 h.1.1.not_common)
 why-one laid t u piece a b (inr h) (inl g) =
-    let p = piece_of laid.pieces.all piece in absurd (not-both p.common (common-is p t.file t.symbol h).0 g.1.1.common)
+    let p = piece_of laid.pieces.all piece in absurd (not-both p.common (common-is p t.file t.symbol h).0 g.1.1.not_common)
 why-one laid t u piece a b (inr h) (inr g) =
     let p = piece_of laid.pieces.all piece in
     let x = (common-is p t.file t.symbol h).1 in

@@ -257,9 +257,9 @@ placed-bounded laid sound file symbol (places.Section n) e code =
     either-some (IsBoundedBy laid file symbol) cut
     (option_map (piece_interval laid) (piece_at laid.pieces.all file n s.value))
     (option_map (λ a. (a, s.size)) (place_address laid file n s.value))
-    (λ yes. cut-bounded laid sound file symbol n e yes)
-    (λ no. weaker-some (IsEmptyIn laid) (IsBoundedBy laid file symbol) (option_map (λ a. (a, s.size)) (place_address laid file n s.value)) (λ x h. inr h)
-    (place-empty laid sound file n s.value s.size (λ kept. no-bytes (class_at laid file n) s.size code (in-section laid sound file symbol n e) no kept)))
+    (λ cuts. cut-bounded laid sound file symbol n e cuts)
+    (λ uncut. weaker-some (IsEmptyIn laid) (IsBoundedBy laid file symbol) (option_map (λ a. (a, s.size)) (place_address laid file n s.value)) (λ x h. inr h)
+    (place-empty laid sound file n s.value s.size (λ kept. no-bytes (class_at laid file n) s.size code (in-section laid sound file symbol n e) uncut kept)))
 
 -- the interval of a symbol that isn't code
 pub interval-bounded : (laid : Laid) → IsSoundly laid → (file symbol : ℕ) → is_code (class_of_place (file_of laid.rels file) (symbol_at laid file symbol).place) ≡ false → IfSome (interval_of laid file symbol) (IsBoundedBy laid file symbol)

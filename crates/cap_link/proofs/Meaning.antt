@@ -139,10 +139,10 @@ bounded-as laid file symbol value size x e f h = let same : (x.0, x.1) ≡ (valu
 
 present-bounded : (laid : Laid) → IsSoundly laid → (at n : ℕ) (r : Resolved) (t : Target) → IsMeaning laid.rels t → BoundsAs laid t at n (present_symbol laid r t)
 unfolding present_symbol
-present-bounded laid sound at n r t meant data =
+present-bounded laid sound at n r t meant shown =
     let absolute = is_absolute_at t.as_is.place in
     let interval = unwrap_or (interval_of laid t.file t.symbol) (0, 0) in
-    let told = data-told absolute (is_code t.class) data in
+    let told = data-told absolute (is_code t.class) shown in
     let value : interval.0 ≡ cond absolute t.as_is.value interval.0 = ap (λ (b : Bool). cond b t.as_is.value interval.0) (sym told.0) in
     let size : interval.1 ≡ cond absolute t.as_is.size interval.1 = ap (λ (b : Bool). cond b t.as_is.size interval.1) (sym told.0) in
     bounded-as laid t.file t.symbol (cond absolute t.as_is.value interval.0) (cond absolute t.as_is.size interval.1) interval value size
@@ -150,7 +150,7 @@ present-bounded laid sound at n r t meant data =
 
 absent-bounded : (laid : Laid) (at n : ℕ) (r : Resolved) (t : Target) → BoundsAs laid t at n (absent_symbol r)
 unfolding absent_symbol
-absent-bounded laid at n r t data = absurd (cc)
+absent-bounded laid at n r t shown = absurd (cc)
 
 either-bounded : (laid : Laid) (t : Target) (at n : ℕ) (b : Bool) (x y : DynSymbolValue) → BoundsAs laid t at n x → BoundsAs laid t at n y → BoundsAs laid t at n (cond b x y)
 either-bounded laid t at n true x y h g = h
@@ -181,14 +181,14 @@ rows-bounded l h at n [] = tt
 rows-bounded l h at n (row ∷ rows) =
     let t = row_target l.named row in
     let s = dyn_symbol l.named l.laid row in (
-      λ data. bounded-one l.laid t.file t.symbol (s.value, s.size) (symbol-bounded l.named l.laid h.laid h.same at n row data),
+      λ shown. bounded-one l.laid t.file t.symbol (s.value, s.size) (symbol-bounded l.named l.laid h.laid h.same at n row shown),
       rows-bounded l h at (n + 1) rows,
     )
 
 symbols-bounded : (l : Linked) → IsSoundLink l → (at : ℕ) → AllByRecursion (IsBounded l.laid) (map (λ s. (s.value, s.size)) (filter is_data (map (symbol_read at) (enumerate_from 0 l.lists.symbols))))
 symbols-bounded l h at =
     let whole : AllByRecursion (BoundsSymbol l.laid) (map (symbol_read at) (enumerate_from 0 (null_dyn_symbol ∷ map (dyn_symbol l.named l.laid) l.lists.plan.symbols))) =
-    (λ data. absurd (cc), rows-bounded l h at 1 l.lists.plan.symbols) in
+    (λ shown. absurd (cc), rows-bounded l h at 1 l.lists.plan.symbols) in
     let all : AllByRecursion (BoundsSymbol l.laid) (map (symbol_read at) (enumerate_from 0 l.lists.symbols)) =
     subst (λ (ss : List DynSymbolValue). AllByRecursion (BoundsSymbol l.laid) (map (symbol_read at) (enumerate_from 0 ss))) (sym h.symbols) whole in
     chosen-all (IsBounded l.laid) is_data (λ s. (s.value, s.size)) (map (symbol_read at) (enumerate_from 0 l.lists.symbols)) all
