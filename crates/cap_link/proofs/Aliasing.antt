@@ -3,21 +3,19 @@ use Rattle.std.proofs.Common.{◌≡◌, ℕ, suc, zero, ◌+◌, ◌≤◌, ◌
 use Rattle.std.specs.Prelude.{slice_index, slice_index_or, ◌&&◌, ◌==◌}
 use Rattle.std.specs.List.{enumerate_from, AllByRecursion}
 use Rattle.std.proofs.lemmas.Bool.{cases_order}
-use Rattle.cap_elf.specs.declared.records.Place.{Place}
 use Rattle.cap_elf.specs.declared.records.Place.TheVariants as places
 use Rattle.cap_elf.specs.declared.records.Symbol.{Symbol}
 use Rattle.cap_elf.specs.Records.{null_symbol}
-use Rattle.cap_elf.specs.RelObject.{RelObject, file_of, symbol_of, name_of}
+use Rattle.cap_elf.specs.RelObject.{RelObject, file_of, name_of}
 use Rattle.cap_fits.specs.Fits.{is_data}
 use Rattle.cap_syms.specs.IsResolved.{IsResolved}
-use Rattle.cap_syms.specs.Resolved.{Resolved, row_of, no_name}
+use Rattle.cap_syms.specs.Resolved.{row_of, no_name}
 use Rattle.cap_layout.specs.declared.piece.Piece.{Piece}
 use Rattle.cap_layout.specs.Exact.{IsExactlyLaid}
 use Rattle.cap_layout.specs.Pieces.{piece_of}
-use Rattle.cap_layout.specs.Points.{Laid, address_of, symbol_at, piece_interval}
+use Rattle.cap_layout.specs.Points.{Laid, address_of, piece_interval}
 use Rattle.cap_table.specs.declared.target.Target.{Target}
 use Rattle.cap_table.specs.Targets.{Named, row_target}
-use Rattle.cap_table.specs.Planned.{exported}
 use Rattle.cap_table.specs.Lists.{DynSymbolValue, null_dyn_symbol, dyn_symbol}
 use Rattle.cap_link.specs.Linked.{Linked}
 use Rattle.cap_link.specs.Laws.{symbol_of_name, target_of_name, AreAliases, EqualsAreAliases}
@@ -26,7 +24,7 @@ use Rattle.cap_link.proofs.Filling.{held-at}
 use Rattle.cap_link.proofs.Holding.{first-true, second-true, same-number}
 use Rattle.cap_link.proofs.Rows.{Ascend, rows-below, rows-ascend}
 use Rattle.cap_link.proofs.Accepted.{LowerLaws}
-use Rattle.cap_link.proofs.Bounding.{IsOfPiece, IsEmptyIn, IsCutBy, IsCommonBy, IsOfSymbol, IsBoundedBy, IsMeaning}
+use Rattle.cap_link.proofs.Bounding.{IsOfPiece, IsEmptyIn, IsCutBy, IsCommonBy, IsBoundedBy, IsMeaning}
 use Rattle.cap_link.proofs.Meaning.{row-meant, symbol-bounded, IsSoundLink}
 use Rattle.cap_link.proofs.Exactly.{LayoutFacts, sound-link}
 

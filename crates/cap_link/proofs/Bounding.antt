@@ -1,9 +1,9 @@
 -- What the intervals of data are in a layout: each is empty, or that of one piece over its padded size.
 use Rattle.std.proofs.Common.{◌≡◌, ℕ, suc, zero, ◌+◌, ◌-◌, ◌≤◌, ◌<◌, Bool, true, false, not, cond, List, [], ◌∷◌, length, refl, sym, ap, ◌∙◌, subst, arith, ◌⊎◌, inl, inr, ⊎_elim, Option, Some, None, eq-eqb}
-use Rattle.std.specs.Prelude.{slice_index_or, IfSome, nat_le, ◌&&◌, ◌||◌, ◌==◌, ℤ, nat_abs, position}
+use Rattle.std.specs.Prelude.{slice_index_or, IfSome, nat_le, ◌&&◌, ◌||◌, ◌==◌, ℤ, nat_abs}
 use Rattle.std.specs.Option.{option_map, option_map_or, option_or}
 use Rattle.std.specs.List.{AllByRecursion}
-use Rattle.std.proofs.lemmas.Bool.{cases_lt, and_parts}
+use Rattle.std.proofs.lemmas.Bool.{cases_lt}
 use Rattle.std.proofs.lemmas.List.{get_or_past}
 use Rattle.std.proofs.lemmas.List.Quantifiers.{position-Some}
 use Rattle.cap_elf.specs.declared.records.Class.{Class}
@@ -75,7 +75,7 @@ pub record IsOfSymbol (laid : Laid) (file symbol piece : ℕ) (x : ℕ × ℕ) :
 abbrev pub IsBoundedBy : Laid → ℕ → ℕ → ℕ × ℕ → Type 0
 IsBoundedBy laid file symbol x = ((piece : ℕ) × IsOfSymbol laid file symbol piece x) ⊎ IsEmptyIn laid x
 
-bounded-one : (laid : Laid) (file symbol : ℕ) (x : ℕ × ℕ) → IsBoundedBy laid file symbol x → IsBounded laid x
+pub bounded-one : (laid : Laid) (file symbol : ℕ) (x : ℕ × ℕ) → IsBoundedBy laid file symbol x → IsBounded laid x
 bounded-one laid file symbol x (inl h) = inl (h.0, h.1.of)
 bounded-one laid file symbol x (inr h) = inr h
 

@@ -1,6 +1,6 @@
 -- In a linked file the bounds of data and of code are exact wherever it is loaded, and those of data lie apart.
-use Rattle.std.proofs.Common.{◌≡◌, ℕ, ◌+◌, ◌-◌, ◌*◌, ◌%◌, ◌≤◌, ◌<◌, min, max, Bool, true, false, not, cond, List, [], ◌∷◌, ◌++◌, length, map, refl, sym, ap, ◌∙◌, subst, arith, ◌⊎◌, inl, inr, ⊎_elim, Option, Some, None}
-use Rattle.std.specs.Prelude.{All, AllPairs, IfSome, filter, slice_index_or, nat_lt, ◌&&◌}
+use Rattle.std.proofs.Common.{◌≡◌, ℕ, ◌+◌, ◌-◌, ◌*◌, ◌%◌, ◌≤◌, ◌<◌, min, max, Bool, true, false, not, cond, List, [], ◌∷◌, ◌++◌, length, map, refl, sym, ap, ◌∙◌, subst, arith, ◌⊎◌, inl, inr, ⊎_elim, Option, Some}
+use Rattle.std.specs.Prelude.{AllPairs, IfSome, filter, slice_index_or, nat_lt, ◌&&◌}
 use Rattle.std.specs.Int.{next_multiple_of}
 use Rattle.std.specs.List.{reduce, AllByRecursion}
 use Rattle.std.proofs.lemmas.Bool.{cases_order}
@@ -8,7 +8,6 @@ use Rattle.cap_base.specs.Lists.{share_byte}
 use Rattle.cap_base.specs.declared.kind.Kind.{Kind}
 use Rattle.cap_conc.specs.Computed.{is_exact}
 use Rattle.cap_elf.specs.declared.records.Segment.{Segment}
-use Rattle.cap_elf.specs.DynView.{DynRecords}
 use Rattle.cap_elf.specs.Ends.{end_of, writes, has_memory}
 use Rattle.cap_elf.specs.IsRelRead.{IsRelRead}
 use Rattle.cap_elf.specs.RelObject.{RelObject}
@@ -17,16 +16,15 @@ use Rattle.cap_fits.specs.Fits.{Fits, Apart, IsOneOrApart, data_intervals}
 use Rattle.cap_fits.specs.Places.{hull, unless_empty, code_range}
 use Rattle.cap_syms.specs.IsResolved.{IsResolved}
 use Rattle.cap_syms.specs.Output.{is_program, soname_of}
-use Rattle.cap_layout.specs.declared.piece.Piece.{Piece}
 use Rattle.cap_layout.specs.declared.parts.Parts.{Parts}
 use Rattle.cap_layout.specs.Exact.{IsExactlyLaid, LayoutsAreExact, CutsArePieces}
 use Rattle.cap_layout.specs.Pieces.{PieceList, piece_of, all_pieces}
 use Rattle.cap_layout.specs.Points.{Laid, address_of, piece_interval}
 use Rattle.cap_table.specs.Targets.{Named}
 use Rattle.cap_table.specs.Planned.{Planned, planned, exported, slots_of}
-use Rattle.cap_table.specs.Lists.{CapTableValue, DynSymbolValue, null_dyn_symbol, dyn_symbol, filled}
+use Rattle.cap_table.specs.Lists.{CapTableValue, null_dyn_symbol, dyn_symbol, filled}
 use Rattle.cap_readback.specs.Plan.{AreLaid}
-use Rattle.cap_readback.specs.Content.{dynamics}
+use Rattle.cap_readback.specs.View.{dynamics}
 use Rattle.cap_readback.proofs.Laying.{laid-is}
 use Rattle.cap_link.specs.Inputs.{Input}
 use Rattle.cap_link.specs.Linked.{Linked}
@@ -39,7 +37,7 @@ use Rattle.cap_link.proofs.Holding.{pieces-held}
 use Rattle.cap_link.proofs.FilesAre.{files-sound}
 use Rattle.cap_link.proofs.Passes.{link-passed, plan-passed, IsPlanned}
 use Rattle.cap_link.proofs.Accepted.{LowerLaws, bridge, caps-made}
-use Rattle.cap_link.proofs.Bounding.{IsSoundly, IsOfPiece, IsEmptyIn, IsBounded, CutsHavePieces}
+use Rattle.cap_link.proofs.Bounding.{IsBounded, CutsHavePieces}
 use Rattle.cap_link.proofs.Meaning.{IsSoundLink, data-bounded}
 
 -- ---- exact bounds of data

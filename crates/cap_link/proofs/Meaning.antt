@@ -1,5 +1,5 @@
 -- What the targets of a link mean, and the intervals of data that its lists give.
-use Rattle.std.proofs.Common.{◌≡◌, ℕ, ◌+◌, ◌^◌, ◌≤◌, ◌<◌, Bool, true, false, not, cond, List, [], ◌∷◌, ◌++◌, map, fold, refl, sym, ap, ◌∙◌, subst, arith, ◌⊎◌, inl, inr, Option, Some, None}
+use Rattle.std.proofs.Common.{◌≡◌, ℕ, ◌+◌, ◌^◌, ◌≤◌, ◌<◌, Bool, true, false, not, cond, List, [], ◌∷◌, ◌++◌, map, refl, sym, ap, ◌∙◌, subst, arith, ◌⊎◌, inr, Option, Some, None}
 use Rattle.std.specs.Prelude.{filter, IfSome, unwrap_or, nat_lt, ◌&&◌, ◌==◌}
 use Rattle.std.specs.List.{list_any, enumerate_from, AllByRecursion}
 use Rattle.cap_elf.specs.declared.records.CapReloc.{CapReloc}
@@ -24,14 +24,14 @@ use Rattle.cap_table.specs.declared.wants.Want.{Want}
 use Rattle.cap_table.specs.Targets.{Named, local_target, row_target, target_of, same_target, is_absolute_at}
 use Rattle.cap_table.specs.Checks.{reloc_of, target_at}
 use Rattle.cap_table.specs.Planned.{Planned, exported, slots_of, fields_of, needs_slot, is_described}
-use Rattle.cap_table.specs.Lists.{DynSymbolValue, slot_want, slot_wants, field_want, field_wants, wants, permissions_of, described, cap_reloc_of, cap_relocs_of, present_symbol, absent_symbol, dyn_symbol, null_dyn_symbol}
+use Rattle.cap_table.specs.Lists.{DynSymbolValue, slot_want, slot_wants, field_want, field_wants, wants, permissions_of, cap_reloc_of, cap_relocs_of, present_symbol, absent_symbol, dyn_symbol, null_dyn_symbol}
 use Rattle.cap_readback.specs.Plan.{AreLaid}
 use Rattle.cap_link.specs.Linked.{Linked}
 use Rattle.cap_link.specs.View.{linked_view, symbol_read, cap_reloc_read}
 use Rattle.cap_link.proofs.Placing.{all-both}
 use Rattle.cap_link.proofs.Numbers.{all-filtered, all-mapped}
 use Rattle.cap_link.proofs.Filling.{fold-keeps}
-use Rattle.cap_link.proofs.Bounding.{IsSoundly, IsBounded, IsBoundedBy, IsMeaning, bounded-one, nothing-bounded, interval-bounded, meant-code, described-bounded}
+use Rattle.cap_link.proofs.Bounding.{IsSoundly, IsBounded, IsBoundedBy, IsMeaning, bounded-one, interval-bounded, meant-code, described-bounded}
 
 -- ---- targets
 either-meant : (rels : List RelObject) (b : Bool) (t u : Target) → IsMeaning rels t → IsMeaning rels u → IsMeaning rels (cond b t u)
