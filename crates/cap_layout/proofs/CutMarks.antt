@@ -1,7 +1,7 @@
 -- No mark of a section lies inside a cut, so that each cut lies between neighbouring marks.
-use Rattle.std.proofs.Common.{◌≡◌, ◌⊎◌, inl, inr, ℕ, zero, suc, ◌+◌, ◌<◌, ◌≤◌, max, min, Bool, true, false, not, ◌&&◌, ◌||◌, cond, ⊎_elim, List, [], ◌∷◌, length, get_or, Option, Some, None, MatchOption, Result, Ok, Err, refl, sym, ap, ◌∙◌, subst, arith}
+use Rattle.std.proofs.Common.{◌≡◌, ◌⊎◌, inl, inr, ℕ, zero, suc, ◌+◌, ◌<◌, ◌≤◌, max, min, Bool, true, false, not, ◌&&◌, ◌||◌, cond, ⊎_elim, List, [], ◌∷◌, length, get_or, Some, None, refl, sym, ap, ◌∙◌, subst, arith}
 use Rattle.std.specs.Prelude.{◌==◌, nat_lt, filter}
-use Rattle.std.specs.List.{flat_map, list_any, AllByRecursion, Contains, All}
+use Rattle.std.specs.List.{flat_map, list_any, AllByRecursion, Contains}
 use Rattle.std.proofs.lemmas.Bool.{cases_Bool, cases_lt, eqb-true, eqb-false, eq-eqb, ltb-false, lt-ltb, le-ltb, and_parts, and_from, not-true, true≢false}
 use Rattle.std.proofs.lemmas.List.{get_or_default}
 use Rattle.std.proofs.lemmas.List.Elements.{recursion_from_All}
@@ -13,9 +13,9 @@ use Rattle.cap_elf.specs.RelObject.{RelObject, section_of}
 use Rattle.cap_intervals.specs.declared.interval.Interval.{Interval}
 use Rattle.cap_intervals.specs.Clash.{clash, share, is_same}
 use Rattle.cap_intervals.specs.Earlier.{NoneAgainst}
-use Rattle.cap_layout.specs.Cuts.{ascending, marks, cut_at, cut_ends, cut_section, cut_interval, cuts_section, is_one_section, overlaps, splits}
+use Rattle.cap_layout.specs.Cuts.{marks, cut_at, cut_ends, cut_section, cut_interval, cuts_section, is_one_section, overlaps, splits}
 use Rattle.cap_layout.proofs.MarkLists.{two}
-use Rattle.cap_layout.proofs.MarkSets.{Above, Ascends, Ascends-fold, no_member, list_any-ascending}
+use Rattle.cap_layout.proofs.MarkSets.{Above, Ascends, Ascends-fold, list_any-ascending}
 use Rattle.cap_layout.proofs.PiecePairs.{pairs}
 
 or_cases : (b c : Bool) → (b || c) ≡ true → (b ≡ true) ⊎ ((b ≡ false) × (c ≡ true))

@@ -1,6 +1,6 @@
 -- Each symbol that has bytes in a split section has the piece that is found at its value.
-use Rattle.std.proofs.Common.{◌≡◌, ◌⊎◌, inl, inr, ℕ, zero, suc, ◌+◌, ◌-◌, ◌<◌, ◌≤◌, Bool, true, false, cond, ⊎_elim, List, [], ◌∷◌, ◌++◌, length, get_or, map, Option, Some, None, MatchOption, Result, Ok, Err, refl, sym, ap, ◌∙◌, subst, arith}
-use Rattle.std.specs.Prelude.{◌==◌, nat_lt}
+use Rattle.std.proofs.Common.{◌≡◌, inl, inr, ℕ, zero, suc, ◌+◌, ◌-◌, ◌<◌, ◌≤◌, true, ⊎_elim, List, [], ◌∷◌, ◌++◌, length, get_or, map, Option, Some, None, MatchOption, Result, Ok, Err, refl, sym, ap, ◌∙◌, subst, arith}
+use Rattle.std.specs.Prelude.{◌==◌}
 use Rattle.std.specs.List.{flat_map, enumerate_from, Contains, All}
 use Rattle.std.proofs.lemmas.Bool.{cases_lt, cond-true, cond-false, ne_eqb, true≢false}
 use Rattle.std.proofs.lemmas.List.{get_or_default, get_or_past, get_or_append_left, length-append, length-map, get_or-map}
@@ -23,16 +23,14 @@ use Rattle.cap_intervals.proofs.Earlier.{first_against_is}
 use Rattle.cap_syms.specs.IsResolved.{IsResolved}
 use Rattle.cap_syms.specs.Resolved.{Resolved}
 use Rattle.cap_layout.specs.declared.piece.Piece.{Piece}
-use Rattle.cap_layout.specs.declared.parts.Sizes.{Sizes}
-use Rattle.cap_layout.specs.Cuts.{intervals, marks, cuts_section, overlaps, overlap_of, refuse_found, splits}
+use Rattle.cap_layout.specs.Cuts.{intervals, marks, overlaps, overlap_of, refuse_found, splits}
 use Rattle.cap_layout.specs.Exact.{IsExactlyLaid, IsPieceOfSymbol, HasPiece, LayoutsAreExact, CutsArePieces}
 use Rattle.cap_layout.specs.IsPiece.{IsPiece}
-use Rattle.cap_layout.specs.Laid.{ArePiecesOf, IsLayoutOf, ends_low, file_aligned, laid_as, lay_of}
+use Rattle.cap_layout.specs.Laid.{ArePiecesOf, ends_low, file_aligned, laid_as, lay_of}
 use Rattle.cap_layout.specs.Parts.{padded_ends}
 use Rattle.cap_layout.specs.PieceOrder.{rank, Before, class_at, section_classes, AreOrdered}
-use Rattle.cap_layout.specs.Pieces.{PieceList, pieces_of, piece_list, piece_of, no_piece, piece_at, holds_offset, is_of_section, split_piece, whole_piece, section_pieces, file_pieces, class_pieces, class_order, common_pieces}
+use Rattle.cap_layout.specs.Pieces.{PieceList, pieces_of, piece_list, piece_of, no_piece, piece_at, holds_offset, split_piece, whole_piece, section_pieces, file_pieces, class_pieces, class_order, common_pieces}
 use Rattle.cap_layout.specs.Places.{InClassOrder}
-use Rattle.cap_layout.specs.Points.{Laid}
 use Rattle.cap_layout.proofs.CutMarks.{cut_facts, between_marks}
 use Rattle.cap_layout.proofs.MarkBounds.{placed_within}
 use Rattle.cap_layout.proofs.PieceAnswers.{where_is, holds, fails}
