@@ -141,9 +141,12 @@ empty-found laid sound file section offset size (Some i) f none =
 place-empty : (laid : Laid) → IsSoundly laid → (file section offset size : ℕ) → (is_kept (class_at laid file section) ≡ true → size ≡ 0) → IfSome (option_map (λ a. (a, size)) (place_address laid file section offset)) (IsEmptyIn laid)
 place-empty laid sound file section offset size none = empty-found laid sound file section offset size (piece_at laid.pieces.all file section offset) (λ i e. found-piece laid sound file section offset i e) none
 
+not-false : (b : Bool) → not b ≡ false → b ≡ true
+not-false true h = refl
+not-false false h = absurd (cc)
+
 zero-of : (size : ℕ) → (true && not (size == 0)) ≡ false → size ≡ 0
-zero-of zero h = refl
-zero-of (suc n) h = absurd (cc)
+zero-of size h = same-number size 0 (not-false (size == 0) h)
 
 -- a symbol that is no code, and doesn't cut its section, has no bytes
 no-bytes : (c : Class) (size : ℕ) → is_code c ≡ false → (is_array c ≡ true → size ≡ 0) → (is_split c && not (size == 0)) ≡ false → is_kept c ≡ true → size ≡ 0

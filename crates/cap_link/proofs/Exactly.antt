@@ -38,7 +38,7 @@ use Rattle.cap_link.proofs.FilesAre.{files-sound}
 use Rattle.cap_link.proofs.Passes.{link-passed, plan-passed, IsPlanned}
 use Rattle.cap_link.proofs.Accepted.{LowerLaws, bridge, caps-made}
 use Rattle.cap_link.proofs.Bounding.{IsBounded, CutsHavePieces}
-use Rattle.cap_link.proofs.Meaning.{IsSoundLink, data-bounded}
+use Rattle.cap_link.proofs.Meaning.{IsSoundLink, two-parts, data-bounded}
 
 -- ---- exact bounds of data
 empty-exact : (base : ℕ) → is_exact base 0 ≡ true
@@ -103,9 +103,6 @@ least-first a b = omega arith
 last-most : (a b c : ℕ) → a ≤ c → b ≤ c → max (max a b) c ≡ c
 last-most a b c h g = omega (arith, h, g)
 
-two-numbers : {a b c d : ℕ} → a ≡ c → b ≡ d → (a, b) ≡ (c, d)
-two-numbers e f = cc
-
 is-below : (a b : ℕ) → a < b → nat_lt a b ≡ true
 is-below a b h = grind arith
 
@@ -127,7 +124,8 @@ range-with true at count h =
     let entries = h.entries in
     let low : 0 + (at.ro_end - 0) ≤ at.table_end = omega (arith, ro, code, code_end, dynamic, entries) in
     let run : at.code_start + (at.code_end - at.code_start) ≤ at.table_end = omega (arith, code, code_end, dynamic, entries) in
-    ap (λ (x : ℕ × ℕ). Some x) (two-numbers (least-first at.code_start at.table_start) (last-most (0 + (at.ro_end - 0)) (at.code_start + (at.code_end - at.code_start)) at.table_end low run))
+    ap (λ (x : ℕ × ℕ). Some x) (two-parts (min (min 0 at.code_start) at.table_start) (max (max (0 + (at.ro_end - 0)) (at.code_start + (at.code_end - at.code_start))) at.table_end) 0 at.table_end
+    (least-first at.code_start at.table_start) (last-most (0 + (at.ro_end - 0)) (at.code_start + (at.code_end - at.code_start)) at.table_end low run))
 range-with false at count h =
     let ro = h.ro in
     let code = h.code in
@@ -137,7 +135,7 @@ range-with false at count h =
     let low : 0 + (at.ro_end - 0) ≤ at.table_end = omega (arith, ro, code, code_end, dynamic, entries) in
     let least : min 0 at.table_start ≡ 0 = omega arith in
     let most : max (0 + (at.ro_end - 0)) at.table_end ≡ at.table_end = omega (arith, low) in
-    ap (λ (x : ℕ × ℕ). Some x) (two-numbers least most)
+    ap (λ (x : ℕ × ℕ). Some x) (two-parts (min 0 at.table_start) (max (0 + (at.ro_end - 0)) at.table_end) 0 at.table_end least most)
 
 parts-are : (at : Parts) → map part_of (filter (λ s. not (writes s) && has_memory s) (segments_of at)) ++ unless_empty (Some (at.table_start, at.table_end)) ≡ parts_if (nat_lt 0 (at.ro_end - 0)) (nat_lt 0 (at.code_end - at.code_start)) (nat_lt at.table_start at.table_end) at
 parts-are at = refl

@@ -131,11 +131,14 @@ unwrap-bounded : (laid : Laid) (file symbol : ℕ) (o : Option (ℕ × ℕ)) →
 unwrap-bounded laid file symbol None h = inr (record { none = refl; within = omega arith })
 unwrap-bounded laid file symbol (Some x) h = h
 
-two-parts : {a b c d : ℕ} → a ≡ c → b ≡ d → (a, b) ≡ (c, d)
-two-parts e f = cc
+abbrev pub paired : ℕ → ℕ → ℕ × ℕ
+paired a b = (a, b)
+
+pub two-parts : (a b c d : ℕ) → a ≡ c → b ≡ d → paired a b ≡ paired c d
+two-parts a b c d e f = ap (λ (n : ℕ). paired n b) e ∙ ap (λ (n : ℕ). paired c n) f
 
 bounded-as : (laid : Laid) (file symbol value size : ℕ) (x : ℕ × ℕ) → x.0 ≡ value → x.1 ≡ size → IsBoundedBy laid file symbol x → IsBoundedBy laid file symbol (value, size)
-bounded-as laid file symbol value size x e f h = let same : (x.0, x.1) ≡ (value, size) = two-parts e f in subst (IsBoundedBy laid file symbol) same h
+bounded-as laid file symbol value size x e f h = subst (IsBoundedBy laid file symbol) (two-parts x.0 x.1 value size e f) h
 
 present-bounded : (laid : Laid) → IsSoundly laid → (at n : ℕ) (r : Resolved) (t : Target) → IsMeaning laid.rels t → BoundsAs laid t at n (present_symbol laid r t)
 unfolding present_symbol
