@@ -1,6 +1,6 @@
 -- An accepted link gives a plan of a file that can be read back.
 use Rattle.std.proofs.Common.{◌≡◌, ℕ, suc, zero, ◌+◌, ◌*◌, ◌^◌, ◌≤◌, ◌<◌, Bool, true, false, not, cond, List, [], ◌∷◌, ◌++◌, length, map, drop, refl, sym, ap, ◌∙◌, subst, arith, Option, Some, None}
-use Rattle.std.specs.Prelude.{filter, All, IfSome, option_to_list, unwrap_or, ◌==◌, ◌&&◌, pos, ◌+ℤ◌}
+use Rattle.std.specs.Prelude.{filter, IfSome, option_to_list, unwrap_or, ◌==◌, ◌&&◌, pos, ◌+ℤ◌}
 use Rattle.std.specs.Int.{is_power_of_two}
 use Rattle.std.specs.List.{range_with_len, AllByRecursion}
 use Rattle.std.specs.Option.{option_map, option_and_then}
@@ -51,7 +51,7 @@ use Rattle.cap_link.proofs.Lowering.{Fits, low-ends, low-pieces, IsLowLaid, low-
 use Rattle.cap_link.proofs.Numbers.{HaveFields, fields-are, IsGoodWant, wants-good, reloc-good, cap-good, all-filtered, all-mapped, all-weaker, all-planned, IsGoodSymbol, place-low}
 use Rattle.cap_link.proofs.Rows.{exported-good, exported-apart}
 use Rattle.cap_link.proofs.Plain.{IsShort, IsGoodName, words-from, own-word}
-use Rattle.cap_link.proofs.Filling.{backward, IsHeld, bodies-long, bodies-count, class-filled, held-at}
+use Rattle.cap_link.proofs.Filling.{backward, IsHeld, bodies-long, bodies-count, class-filled}
 use Rattle.cap_link.proofs.Holding.{pieces-held, steps-placed}
 use Rattle.cap_link.proofs.Aligning.{grows, HasPower, pieces-align, whole-aligned}
 use Rattle.cap_link.proofs.FilesAre.{files-sound, own-names-good, AreFlags, flags-good}
@@ -164,7 +164,7 @@ pub record IsBridged (l : Linked) : Type 0 where
   pub plan : IsPlan (content_of l) (pieces_by_class l)
   pub file : file_of_link l ≡ file_of (content_of l) (pieces_by_class l)
 
-symbols-made : (needed : List (List ℕ)) (soname : Option (List ℕ)) (l : Linked) → l.lists ≡ filled l.named l.lists.plan l.laid → IsPlanned l.named l.laid.pieces.all needed soname l.lists.plan → named_symbols l ≡ map (dyn_symbol l.named l.laid) (exported l.named.table)
+pub symbols-made : (needed : List (List ℕ)) (soname : Option (List ℕ)) (l : Linked) → l.lists ≡ filled l.named l.lists.plan l.laid → IsPlanned l.named l.laid.pieces.all needed soname l.lists.plan → named_symbols l ≡ map (dyn_symbol l.named l.laid) (exported l.named.table)
 unfolding filled planned
 symbols-made needed soname l is h =
     let rows : l.lists.plan.symbols ≡ exported l.named.table = ap (λ (p : Planned). p.symbols) h.is in
@@ -174,7 +174,7 @@ relas-made : (l : Linked) → l.lists ≡ filled l.named l.lists.plan l.laid →
 unfolding filled
 relas-made l is = ap (λ (x : CapTableValue). x.relas) is
 
-caps-made : (l : Linked) → l.lists ≡ filled l.named l.lists.plan l.laid → l.lists.cap_relocs ≡ map (cap_reloc_of l.laid) (filter (λ w. is_described w.kind w.target) (wants l.named l.lists.plan l.laid))
+pub caps-made : (l : Linked) → l.lists ≡ filled l.named l.lists.plan l.laid → l.lists.cap_relocs ≡ map (cap_reloc_of l.laid) (filter (λ w. is_described w.kind w.target) (wants l.named l.lists.plan l.laid))
 unfolding filled
 caps-made l is = ap (λ (x : CapTableValue). x.cap_relocs) is
 

@@ -1,47 +1,31 @@
 -- Every piece has its bytes, and every step of the walk lies in its piece.
-use Rattle.std.proofs.Common.{◌≡◌, ℕ, suc, ◌+◌, ◌-◌, ◌^◌, ◌≤◌, ◌<◌, Bool, true, false, not, cond, List, [], ◌∷◌, ◌++◌, length, map, fold, min, drop, refl, sym, ap, ◌∙◌, subst, arith, ⊎_elim, Some, None, Result, Ok, Err}
-use Rattle.std.specs.Prelude.{filter, zip, slice_index_or, nat_le, nat_lt, ◌&&◌, ◌==◌, ok_or}
-use Rattle.std.specs.Int.{is_power_of_two, trailing_zeros, w64}
-use Rattle.std.specs.List.{flat_map, enumerate_from, cons_option, AllByRecursion}
-use Rattle.std.proofs.lemmas.Bool.{cases_lt}
+use Rattle.std.proofs.Common.{◌≡◌, ℕ, suc, ◌+◌, ◌≤◌, ◌<◌, Bool, true, false, not, List, [], ◌∷◌, ◌++◌, length, refl, sym, ap, ◌∙◌, subst, arith, Some, Result, Ok, Err}
+use Rattle.std.specs.Prelude.{slice_index_or, nat_le, ◌&&◌, ◌==◌, ok_or}
+use Rattle.std.specs.List.{flat_map, enumerate_from, AllByRecursion}
 use Rattle.std.proofs.lemmas.List.Quantifiers.{position-Some}
 use Rattle.cap_base.specs.Steps.{◌>>=◌, fault, steps, in_file}
 use Rattle.cap_base.specs.declared.check.Check.TheVariants.{RelocationKind, RelocationOffset, RelocationSlot, Addend}
 use Rattle.cap_base.specs.declared.refusal.Fault.{Fault}
-use Rattle.cap_conc.specs.Computed.{representable_alignment}
-use Rattle.cap_elf.specs.declared.records.Class.{Class}
-use Rattle.cap_elf.specs.declared.records.Class.TheVariants.{Ro, Code, Init, Fini, Relro, Data, Bss, Dropped}
-use Rattle.cap_elf.specs.declared.records.Place.{Place}
-use Rattle.cap_elf.specs.declared.records.Place.TheVariants as places
 use Rattle.cap_elf.specs.declared.records.Reloc.{Reloc}
-use Rattle.cap_elf.specs.declared.records.Section.{Section}
-use Rattle.cap_elf.specs.declared.records.Symbol.{Symbol}
-use Rattle.cap_elf.specs.Classes.{is_kept, is_split, same_class}
-use Rattle.cap_elf.specs.IsRelRead.{IsRelRead, IsRelSymbol, IsSection, IsPlaced}
-use Rattle.cap_elf.specs.RelObject.{RelObject, no_object, no_section, file_of, section_of, symbol_of}
+use Rattle.cap_elf.specs.IsRelRead.{IsRelRead}
+use Rattle.cap_elf.specs.RelObject.{RelObject, no_object, file_of, section_of}
 use Rattle.cap_elf.proofs.Passing.{bind_passed, check_passed, choice_passed, some_passed, same_value}
-use Rattle.cap_syms.specs.declared.entries.Entry.{Entry}
-use Rattle.cap_syms.specs.declared.entries.Shape.{Shape}
-use Rattle.cap_syms.specs.declared.entries.Shape.TheVariants as shapes
-use Rattle.cap_syms.specs.IsResolved.{IsShapeOf, IsRow, IsResolved}
+use Rattle.cap_syms.specs.IsResolved.{IsResolved}
 use Rattle.cap_syms.specs.Resolved.{Resolved}
 use Rattle.cap_layout.proofs.PieceAll.{IsIn, all_are}
 use Rattle.cap_layout.proofs.PieceCommons.{commons_are}
 use Rattle.cap_layout.specs.IsPiece.{IsPiece, IsPieceOf}
 use Rattle.cap_layout.specs.declared.piece.Piece.{Piece}
-use Rattle.cap_layout.specs.Cuts.{splits, cut_at, is_one_section, with_mark, cuts_section, cut_ends, marks, intervals}
-use Rattle.cap_layout.specs.Pieces.{own_alignment, split_piece, whole_piece, section_pieces, file_pieces, class_pieces, common_piece, common_pieces, class_order, all_pieces, no_piece, piece_of, is_of_section, holds_field, field_piece}
+use Rattle.cap_layout.specs.Pieces.{class_pieces, common_pieces, class_order, all_pieces, no_piece, piece_of, is_of_section, holds_field, field_piece}
 use Rattle.cap_table.proofs.BodyRoom.{padded_long}
 use Rattle.cap_table.specs.declared.target.Step.{Step}
 use Rattle.cap_table.specs.Kinds.{width_of, is_accepted, is_passed_over}
 use Rattle.cap_table.specs.Targets.{Named, target_of}
 use Rattle.cap_table.specs.Checks.{no_reloc, reloc_of, refuses_target, clashes, addend_passes, checked_piece, record_step, file_steps, walk_of}
-use Rattle.cap_readback.proofs.Aligned.{max-power}
 use Rattle.cap_link.proofs.Placing.{all-both}
-use Rattle.cap_link.proofs.Segmented.{same-is}
-use Rattle.cap_link.proofs.Numbers.{recursed, all-weaker}
-use Rattle.cap_link.proofs.Filling.{IsHeld, IsPlacedWith, IsPlacedStep, Passed, all-passed, held-at, steps-keep, backward}
-use Rattle.cap_link.proofs.Aligning.{HasPower, grows, pow-power, alignment-power}
+use Rattle.cap_link.proofs.Numbers.{all-weaker}
+use Rattle.cap_link.proofs.Filling.{IsHeld, IsPlacedWith, IsPlacedStep, held-at, steps-keep, backward}
+use Rattle.cap_link.proofs.Aligning.{HasPower}
 
 -- ---- numbered lists
 -- each member is what a function gives of its number, which is below a limit
@@ -56,15 +40,15 @@ enumerated f d limit n (x ∷ xs) le h =
 all-numbered : {X : Type 0} (d : X) (xs : List X) → AllByRecursion (λ p. (p.0 < length xs) × (slice_index_or xs p.0 d ≡ p.1)) (enumerate_from 0 xs)
 all-numbered d xs = enumerated (λ (k : ℕ). slice_index_or xs k d) d (length xs) 0 xs (omega arith) (λ k lt. let e : 0 + k ≡ k = omega arith in ap (λ (j : ℕ). slice_index_or xs j d) e)
 
-first-true : (a b : Bool) → (a && b) ≡ true → a ≡ true
+pub first-true : (a b : Bool) → (a && b) ≡ true → a ≡ true
 first-true true b h = refl
 first-true false b h = h
 
-second-true : (a b : Bool) → (a && b) ≡ true → b ≡ true
+pub second-true : (a b : Bool) → (a && b) ≡ true → b ≡ true
 second-true true b h = h
 second-true false b h = absurd (cc)
 
-same-number : (n m : ℕ) → (n == m) ≡ true → n ≡ m
+pub same-number : (n m : ℕ) → (n == m) ≡ true → n ≡ m
 same-number n m h = grind arith
 
 abbrev pub IsNumberedFile : List RelObject → ℕ × RelObject → Type 0
@@ -116,10 +100,10 @@ pieces-held rels table read resolved =
 abbrev pub passing : {A : Type 0} → A → Result A Fault
 passing x = Ok x
 
-at-most : (a b : ℕ) → nat_le a b ≡ true → a ≤ b
+pub at-most : (a b : ℕ) → nat_le a b ≡ true → a ≤ b
 at-most a b h = grind arith
 
-not-common : (b : Bool) → not b ≡ true → b ≡ false
+pub not-common : (b : Bool) → not b ≡ true → b ≡ false
 not-common true h = absurd (cc)
 not-common false h = refl
 
