@@ -27,7 +27,7 @@ Refuses {A} {E} Q r = (e : E) → r ≡ Err e → Q e
 never-ok : {A E : Type 0} (Q : E → Type 0) (x : A) → Refuses Q (Ok x)
 never-ok Q x e h = absurd cc
 
-err-only : {A E : Type 0} (Q : E → Type 0) (e : E) → Q e → Refuses {A} {E} Q (Err e)
+err-only : {A E : Type 0} (Q : E → Type 0) (e : E) → Q e → Refuses {A = A} Q (Err e)
 err-only Q e q f h = let same : e ≡ f = cc in subst Q same q
 
 refused-or : {A E : Type 0} (Q : E → Type 0) (b : Bool) (e : E) (r : Result A E) → Q e → Refuses Q r → Refuses Q (refuse b e >> r)

@@ -114,7 +114,7 @@ ascend-more : (b : Bool) (from : ℕ) (ns : List ℕ) (n m : ℕ) → (b ≡ tru
 ascend-more true from ns n m lt h le = ascend-push from ns n m h (lt refl)
 ascend-more false from ns n m lt h le = rw append-nil (ascend-weaker from ns n m h le)
 
-trees-weaker : (n m : ℕ) → n ≤ m → (openings : List Opening) → All (λ o. All (λ i. i < n) o.tree) openings → All (λ o. All (λ i. i < m) o.tree) openings
+pub trees-weaker : (n m : ℕ) → n ≤ m → (openings : List Opening) → All (λ o. All (λ i. i < n) o.tree) openings → All (λ o. All (λ i. i < m) o.tree) openings
 trees-weaker n m le openings h =
     All-weaker (λ (o : Opening). All (λ i. i < n) o.tree) (λ (o : Opening). All (λ i. i < m) o.tree)
     (λ o below. All-weaker (λ (i : ℕ). i < n) (λ (i : ℕ). i < m) (λ i lt. omega (arith, lt, le)) o.tree below) openings h

@@ -85,13 +85,13 @@ unrelocated objects i d lt =
     let o : Loaded = get_or objects i d in
     let memory : TaggedMemory = fresh_memory o.base (records_of o).span in
     root-at (λ (root : Mapping). (memory.base ≡ root.base) × (length memory.bytes ≡ root.len) × (memory.words ≡ [])) 0 i objects d lt
-    (λ k. (refl, length-replicate (records_of o).span 0, refl))
+    (λ k. (refl, length-replicate {A = ℕ} (records_of o).span 0, refl))
 
 lies-in : (o : Loaded) (p : Pair) → IsSlotIn (fresh_memory o.base (records_of o).span) p → LiesIn o p
 lies-in o p h =
     let from = h.inside.from in
     let to = h.inside.to in
-    let size = length-replicate (records_of o).span 0 in
+    let size = length-replicate {A = ℕ} (records_of o).span 0 in
     (from, omega (arith, to, size))
 
 pub slots-of : (laws : PairLaws) (rule : Rule) (objects : List Loaded) (start_count : ℕ) (openings : List Opening) (i : ℕ) (d : Loaded) (pairs : List Pair) → IsRelocated objects start_count openings i

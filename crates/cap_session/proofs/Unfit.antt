@@ -38,9 +38,9 @@ none-fits = record { data_exact = λ k. All-nil _; code_exact = λ k. tt }
 
 -- an object that doesn't fit is there
 there : (objects : List DynRecords) (i : ℕ) → (Fits (object_at objects i) → ⊥) → i < length objects
-there objects i no =
+there objects i unfit =
     ⊎_elim (λ (lt : i < length objects). lt)
-    (λ (ge : length objects ≤ i). absurd (no (subst Fits (sym (get_or_past objects i no_records ge)) none-fits)))
+    (λ (ge : length objects ≤ i). absurd (unfit (subst Fits (sym (get_or_past objects i no_records ge)) none-fits)))
     (cases_lt i (length objects))
 
 blamed-unfit : (setting : Setting) (hit : Option Hit) (base len : ℕ) → IsUnfitCause setting (relocs.Inexact hit base len) → Fits (object_at setting.objects (blamed setting.index hit)) → ⊥
@@ -119,15 +119,15 @@ call-unfit laws fetch dir rule state name mode refusal given h e inexact =
 
 -- ---- over a store that tells its files
 for-bounds : {T : Type 0} (wanted : Result T OpenRefusal) (refusal : OpenRefusal) (cause : OpenCause) → IsRefusedBy wanted refusal cause → IsInexactCause cause → wanted ≡ Err refusal
-for-bounds wanted refusal NoFile h no = absurd no
-for-bounds wanted refusal (Malformed check at) h no = absurd no
-for-bounds wanted refusal (Unsupported check at) h no = absurd no
-for-bounds wanted refusal (Unresolved name) h no = absurd no
-for-bounds wanted refusal (Inexact name base len) h yes = h
-for-bounds wanted refusal (Full asked left) h no = absurd no
-for-bounds wanted refusal (Limit check) h no = absurd no
-for-bounds wanted refusal ReadFault h no = absurd no
-for-bounds wanted refusal NoMemory h no = absurd no
+for-bounds wanted refusal NoFile h never = absurd never
+for-bounds wanted refusal (Malformed check at) h never = absurd never
+for-bounds wanted refusal (Unsupported check at) h never = absurd never
+for-bounds wanted refusal (Unresolved name) h never = absurd never
+for-bounds wanted refusal (Inexact name base len) h is = h
+for-bounds wanted refusal (Full asked left) h never = absurd never
+for-bounds wanted refusal (Limit check) h never = absurd never
+for-bounds wanted refusal ReadFault h never = absurd never
+for-bounds wanted refusal NoMemory h never = absurd never
 
 pub start-by : InexactIsUnfit → StoresGiveRead → (store : Store) (dir main : List ℕ) (rule : Rule) (refusal : OpenRefusal) → IsRefusedBy (started (fetch_from store) dir main rule) refusal refusal.cause → IsUnfitStart (fetch_from store) dir main rule refusal
 start-by unfit read store dir main rule refusal h inexact =

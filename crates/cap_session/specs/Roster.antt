@@ -1,5 +1,5 @@
 -- The objects of a session in load order, each with all that belongs to it: what is stated of loading them.
-use Rattle.std.specs.Prelude.{◌≡◌, ℕ, ◌≤◌, Bool, List, [], ◌++◌, length, map, zip, take, drop, All, Option, Some, None, Result, Ok, Err, slice_get}
+use Rattle.std.specs.Prelude.{◌≡◌, ℕ, ◌≤◌, Bool, true, List, [], ◌++◌, length, map, zip, take, drop, All, Option, Some, None, Result, Ok, Err, slice_get}
 use Rattle.std.specs.List.{AllZip}
 use Rattle.cap_own.specs.Interval.{Interval, Cover}
 use Rattle.cap_own.specs.Cap.{Mapping}

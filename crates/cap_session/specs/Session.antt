@@ -1,5 +1,5 @@
 -- A session as contracts see it, what holds of each, and the state that it stands for.
-use Rattle.std.specs.Prelude.{◌≡◌, ℕ, ◌+◌, ◌<◌, ◌≤◌, ◌==◌, Bool, List, [], ◌∷◌, ◌++◌, length, map, All, slice_index_or, take, if◌then◌else◌}
+use Rattle.std.specs.Prelude.{◌≡◌, ℕ, ◌+◌, ◌<◌, ◌≤◌, ◌==◌, Bool, true, List, [], ◌∷◌, ◌++◌, length, map, All, slice_index_or, take, if◌then◌else◌}
 use Rattle.cap_own.specs.Interval.{Interval}
 use Rattle.cap_own.specs.Cap.{Mapping}
 use Rattle.cap_elf.specs.DynView.{DynRecords, DynValue}
