@@ -11,10 +11,10 @@ use Rattle.cap_fits.specs.Fits.{DataLieApart, IsOneOrApart, Placed, ShareNone, d
 use Rattle.cap_own.specs.Cap.{Mapping}
 use Rattle.cap_own.specs.Interval.{Interval, Cover}
 use Rattle.cap_reloc.specs.Binding.{AreMappings}
-use Rattle.cap_session.specs.Exact.{IsReached, LieBehind, placed_in, placed_objects}
+use Rattle.cap_session.specs.Exact.{IsReached, LieBehind, placed_objects}
 use Rattle.cap_session.specs.Loading.{Loaded, records_of}
 use Rattle.cap_session.specs.Mappings.{spans_of}
-use Rattle.cap_session.specs.Session.{IsSession, SessionValue, all_records, roster_in}
+use Rattle.cap_session.specs.Roster.{IsRoster, RosterValue, records_in}
 use Rattle.cap_session.specs.State.{State}
 use Rattle.cap_session.proofs.RosterLemmas.{pads_roots}
 
@@ -76,8 +76,8 @@ ends-before from (o ∷ objects) h =
 pub state-apart : (state : State) → IsReached state → DataLieApart (placed_objects state.objects)
 state-apart state h = lie-apart (placed_objects state.objects) (ends-before 0x40000000 state.objects h.behind)
 
--- ---- of a session
-abbrev placed_by : List DynRecords → List Mapping → List Placed
+-- ---- of a roster
+abbrev pub placed_by : List DynRecords → List Mapping → List Placed
 placed_by records roots = zip records (map (λ r. r.base) roots)
 
 all-covered : (start next : ℕ) (records : List DynRecords) (pads : List Interval) (roots : List Mapping) → length pads ≡ length roots → Cover start (spans_of pads roots) next → All (BeginsAt start) (placed_by records roots)
@@ -101,6 +101,5 @@ ends-covered start next n (o ∷ records) (p ∷ pads) (r ∷ roots) same are h 
     (All-weaker (BeginsAt (r.base + r.len)) (EndsBefore (o, r.base)) (λ q at. omega (arith, size, at)) (placed_by records roots) (all-covered (r.base + r.len) next records pads roots (omega (arith, same)) h.1.1))
     (ends-covered (r.base + r.len) next (n + 1) records pads roots (omega (arith, same)) are.1 h.1.1)
 
-pub session-apart : (s : SessionValue) → IsSession s → DataLieApart (placed_in s)
-session-apart s h =
-    lie-apart (placed_in s) (ends-covered 0x40000000 s.next 0 (all_records s) s.pads s.roots (pads_roots (roster_in s) h.roster) h.roster.mappings h.roster.covered)
+pub roster-apart : (r : RosterValue) → IsRoster r → DataLieApart (placed_by (records_in r) r.roots)
+roster-apart r h = lie-apart (placed_by (records_in r) r.roots) (ends-covered 0x40000000 r.next 0 (records_in r) r.pads r.roots (pads_roots r h) h.mappings h.covered)

@@ -27,3 +27,4 @@ pub mod Reached
 pub mod Apart
 pub mod Given
 pub mod Unfit
+pub mod Runs

@@ -164,7 +164,7 @@ call-reached laws fetch dir rule state name mode next given h e =
     subst IsReached (ok_same (made objects bound.0) next bound.2) reached
 
 -- ---- runs
-one-call : (laws : PairLaws) (fetch : Fetch) (dir : List ℕ) (rule : Rule) (state : State) (call : Call) → GivesRead fetch → IsReached state → IsReached (after_call fetch dir rule state call)
+pub one-call : (laws : PairLaws) (fetch : Fetch) (dir : List ℕ) (rule : Rule) (state : State) (call : Call) → GivesRead fetch → IsReached state → IsReached (after_call fetch dir rule state call)
 one-call laws fetch dir rule state call given h = go (opened fetch dir rule state call.name (mode_of call.form)) refl
   where
     go : (r : Result State OpenRefusal) → opened fetch dir rule state call.name (mode_of call.form) ≡ r → IsReached (result_unwrap_or r state)
@@ -175,7 +175,7 @@ calls-reached : (laws : PairLaws) (fetch : Fetch) (dir : List ℕ) (rule : Rule)
 calls-reached laws fetch dir rule state [] given h = h
 calls-reached laws fetch dir rule state (call ∷ calls) given h = calls-reached laws fetch dir rule (after_call fetch dir rule state call) calls given (one-call laws fetch dir rule state call given h)
 
-unless-ended : (o : Option OpenRefusal) (s state : State) → state_unless o s ≡ Ok state → s ≡ state
+pub unless-ended : (o : Option OpenRefusal) (s state : State) → state_unless o s ≡ Ok state → s ≡ state
 unless-ended None s state e = ok_same s state e
 unless-ended (Some refusal) s state e = absurd cc
 

@@ -75,10 +75,10 @@ pub passed : {B E : Type 0} (b : Bool) (e : E) (r : Result B E) (y : B) → (ref
 passed true e r y h = absurd cc
 passed false e r y h = refl
 
-object_same : (x y : Loaded) → ◌≡◌ {A = Result Loaded OpenCause} (Ok x) (Ok y) → x ≡ y
+pub object_same : (x y : Loaded) → ◌≡◌ {A = Result Loaded OpenCause} (Ok x) (Ok y) → x ≡ y
 object_same x y e = cc
 
-unrefused : {B E : Type 0} (b : Bool) (e : E) (r : Result B E) (y : B) → (refuse b e >> r) ≡ Ok y → r ≡ Ok y
+pub unrefused : {B E : Type 0} (b : Bool) (e : E) (r : Result B E) (y : B) → (refuse b e >> r) ≡ Ok y → r ≡ Ok y
 unrefused true e r y h = absurd cc
 unrefused false e r y h = h
 
@@ -125,7 +125,7 @@ loaded_next-loads fetch dir objects name more given h e =
     one_more-loads fetch (path_of dir (length objects) name) objects name more given h (seen_ok (at_path (path_of dir (length objects) name)) (one_more fetch (path_of dir (length objects) name) objects name) more e)
 
 -- what each object more keeps holds at the end
-closed_by-keeps : (P : List Loaded → Type 0) (n : ℕ) (fetch : Fetch) (dir : List ℕ) (objects last : List Loaded) → ((xs : List Loaded) (name : List ℕ) (more : List Loaded) → P xs → loaded_next fetch dir xs name ≡ Ok more → P more)
+pub closed_by-keeps : (P : List Loaded → Type 0) (n : ℕ) (fetch : Fetch) (dir : List ℕ) (objects last : List Loaded) → ((xs : List Loaded) (name : List ℕ) (more : List Loaded) → P xs → loaded_next fetch dir xs name ≡ Ok more → P more)
     → P objects → closed_by n fetch dir objects ≡ Ok last → P last
 closed_by-keeps P zero fetch dir objects last step h e = go (first_unanswered objects) e
   where

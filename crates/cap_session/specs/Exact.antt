@@ -137,3 +137,22 @@ IsUnfitCall fetch dir rule state name mode refusal =
 pub record InexactIsUnfit : Type 0 where
   pub start : (fetch : Fetch) (dir main : List ℕ) (rule : Rule) (refusal : OpenRefusal) → GivesRead fetch → started fetch dir main rule ≡ Err refusal → IsUnfitStart fetch dir main rule refusal
   pub call : (fetch : Fetch) (dir : List ℕ) (rule : Rule) (state : State) (name : List ℕ) (mode : Mode) (refusal : OpenRefusal) → GivesRead fetch → IsReached state → opened fetch dir rule state name mode ≡ Err refusal → IsUnfitCall fetch dir rule state name mode refusal
+
+-- the file of a loaded object is what a path gives
+abbrev pub IsFetched : Fetch → Loaded → Type 0
+IsFetched fetch o = (path : List ℕ) × (fetch path ≡ Ok o.source)
+
+-- a refusal for bounds among objects whose files paths give
+pub record IsUnfitIn (fetch : Fetch) (rule : Rule) (dir : List ℕ) (refusal : OpenRefusal) : Type 0 where
+  pub objects : List Loaded
+  pub start_count : ℕ
+  pub openings : List Opening
+  pub fetched : All (IsFetched fetch) objects
+  pub is_unfit : IsUnfit rule dir objects start_count openings refusal
+
+-- the files of the objects that a run of calls leads to are the store's; and it is refused for bounds, and a call is passed
+-- over for them, only by an object that doesn't fit
+pub record RunsAreSound : Type 0 where
+  pub fetched : (store : Store) (dir main : List ℕ) (rule : Rule) (calls : List Call) (state : State) → (outcome_of (fetch_from store) dir main rule calls).«end» ≡ Ok state → All (IsFetched (fetch_from store)) state.objects
+  pub ended : (store : Store) (dir main : List ℕ) (rule : Rule) (calls : List Call) (refusal : OpenRefusal) → (outcome_of (fetch_from store) dir main rule calls).«end» ≡ Err refusal → IsInexact refusal → IsUnfitIn (fetch_from store) rule dir refusal
+  pub noted : (store : Store) (dir main : List ℕ) (rule : Rule) (calls : List Call) → All (λ refusal. IsInexact refusal → IsUnfitIn (fetch_from store) rule dir refusal) (outcome_of (fetch_from store) dir main rule calls).notes

@@ -1,4 +1,4 @@
-ghost use Rattle.cap_session.specs.Exact.{InexactIsUnfit, NamesAreAnswered, StatesAreReached, StatesLieApart, StoresGiveRead};
+ghost use Rattle.cap_session.specs.Exact.{InexactIsUnfit, NamesAreAnswered, RunsAreSound, StatesAreReached, StatesLieApart, StoresGiveRead};
 
 /// States what holds of every state that a start and calls lead to, and of a refusal. It computes nothing.
 pub fn state_laws()
@@ -7,6 +7,7 @@ pub fn state_laws()
     ensures answered { NamesAreAnswered }
     ensures apart { StatesLieApart }
     ensures unfit { InexactIsUnfit }
+    ensures runs { RunsAreSound }
 {
     cap_elf::read_laws();
     cap_reloc::binding_laws();

@@ -3,6 +3,7 @@ use Rattle.cap_session.proofs.Apart.{state-apart}
 use Rattle.cap_session.proofs.Given.{store-gives}
 use Rattle.cap_session.proofs.Placed.{PairLaws}
 use Rattle.cap_session.proofs.Reached.{call-reached, run-reached, start-reached}
+use Rattle.cap_session.proofs.Runs.{ended-blamed, noted-blamed, run-among}
 use Rattle.cap_session.proofs.Unfit.{call-unfit, start-unfit}
 use Rattle.cap_session.specs.Loading.{fetch_from}
 use Rattle.cap_session.proofs.laws.state_laws.Goals as goal
@@ -31,3 +32,14 @@ returns-clause-unfit c =
     let said = c.binding_laws.ensures in
     let laws : PairLaws = record { narrowed = said.narrowed; apart = said.apart; inside = said.inside; bounds = said.bounds; unfit = said.unfit } in
     record { start = start-unfit laws; call = call-unfit laws }
+
+pub returns-clause-runs : goal.returns-clause-runs
+returns-clause-runs c =
+    let said = c.binding_laws.ensures in
+    let laws : PairLaws = record { narrowed = said.narrowed; apart = said.apart; inside = said.inside; bounds = said.bounds; unfit = said.unfit } in
+    let given = store-gives c.read_laws.ensures.dyn in
+    record {
+      fetched = λ store dir main rule calls state. run-among laws (fetch_from store) dir main rule calls state (given store);
+      ended = λ store dir main rule calls refusal. ended-blamed laws (fetch_from store) dir main rule calls refusal (given store);
+      noted = λ store dir main rule calls. noted-blamed laws (fetch_from store) dir main rule calls (given store);
+    }

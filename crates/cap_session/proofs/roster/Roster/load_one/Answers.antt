@@ -21,7 +21,7 @@ returns-clause-adds g c =
     ∙ ap (λ (n : ℕ). path_of r.dir n c.text_of.result.now) c.len.ensures.len
     ∙ ap (λ (text : List ℕ). path_of r.dir (length r.objects) text) c.text_of.ensures in
     let tells : TellsPath (next_path r name) c.in-Err.cause c.refusal_at.result =
-    subst (λ (p : List ℕ). TellsPath p c.in-Err.cause c.refusal_at.result) (c.deref-in-Err.ensures ∙ path) c.refusal_at.ensures in
+    subst (λ (p : List ℕ). TellsPath p c.in-Err.cause c.refusal_at.result) (c.deref-in-Err.ensures ∙ path) c.refusal_at.ensures.tells in
     let adds : IfSome (g.F.Files.told c.args.files.now) (λ store. IsCausedBy (next_object (fetch_from store) (next_path r name) (length r.objects) r.next name) c.in-Err.cause) =
     subst (λ (p : List ℕ). IfSome (g.F.Files.told c.args.files.now) (λ store. IsCausedBy (next_object (fetch_from store) p (length r.objects) r.next name) c.in-Err.cause)) (c.deref-2.ensures ∙ path) c.in-Err.ensures.adds.0 in (
       if_some_map (λ (store : Store). IsCausedBy (next_object (fetch_from store) (next_path r name) (length r.objects) r.next name) c.in-Err.cause) (λ (store : Store). IsRefusedBy (next_in store r name) c.refusal_at.result c.refusal_at.result.cause)

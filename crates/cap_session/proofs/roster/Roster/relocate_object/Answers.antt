@@ -18,5 +18,5 @@ returns-in-Ok-relocate_one-clause-relocates c =
 pub returns-clause-relocates : goal.returns-clause-relocates
 returns-clause-relocates c =
     let e = rw (c.deref.ensures.value, c.is_symbolic-symbolic.ensures.value) at (c.deref-2.ensures.value ∙ c.in-Ok.ensures) in
-    let t = subst (λ (r : RosterValue). Tells (reloc_refusal r.dir (objects_in r) c.args.i c.in-Err.refusal) c.in-Err.refusal c.open_refusal.result) c.in-Err.ensures.rebinds.1 c.open_refusal.ensures in
+    let t = subst (λ (r : RosterValue). Tells (reloc_refusal r.dir (objects_in r) c.args.i c.in-Err.refusal) c.in-Err.refusal c.open_refusal.result) c.in-Err.ensures.rebinds.1 c.open_refusal.ensures.tells in
     relocates_err c.args.look_up.now.rule (objects_in c.args.self.now) c.args.look_up.now.start_count c.args.look_up.now.openings.items c.args.i c.deref-2.result.now c.args.self.now.dir c.args.self.now c.relocate_one.new.self c.in-Err.refusal c.open_refusal.result e c.in-Err.ensures.rebinds t
