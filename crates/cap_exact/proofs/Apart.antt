@@ -9,7 +9,7 @@ use Rattle.cap_fits.specs.Fits.{Apart, DataLieApart, IsOneOrApart, Placed, Share
 use Rattle.cap_session.specs.Exact.{placed_objects}
 use Rattle.cap_session.specs.Loading.{Loaded, records_of}
 use Rattle.cap_exact.specs.Loads.{AreOneOrApart, loaded_data}
-use Rattle.cap_exact.proofs.Blamed.{no_object}
+use Rattle.cap_exact.proofs.Standing.{no_object}
 
 share-turned : (x y : ℕ × ℕ) → share_byte x y ≡ false → share_byte y x ≡ false
 share-turned x y e = let le = ltb-false _ _ e in le-ltb _ _ (omega (arith, le))

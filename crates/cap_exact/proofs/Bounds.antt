@@ -13,7 +13,7 @@ use Rattle.cap_scope.specs.Chosen.{no_records, object_at}
 use Rattle.cap_session.specs.Exact.{IsBoundOf}
 use Rattle.cap_session.specs.Loading.{Loaded, records_of}
 use Rattle.cap_exact.specs.Loads.{IsBoundOfData, loaded_data}
-use Rattle.cap_exact.proofs.Blamed.{no_object}
+use Rattle.cap_exact.proofs.Standing.{no_object}
 
 owner-data : (objects : List Loaded) (i : ℕ) (x : ℕ × ℕ) → i < length objects → Contains (loaded_intervals (object_at (map records_of objects) i) (slice_index (map (λ (o : Loaded). o.base) objects) i)) x
     → IfSome (slice_get objects i) (λ o. Contains (loaded_data o) x)
