@@ -164,7 +164,7 @@ pub record IsBridged (l : Linked) : Type 0 where
   pub plan : IsPlan (content_of l) (pieces_by_class l)
   pub file : file_of_link l ≡ file_of (content_of l) (pieces_by_class l)
 
-symbols-made : (needed : List (List ℕ)) (soname : Option (List ℕ)) (l : Linked) → l.lists ≡ filled l.named l.lists.plan l.laid → IsPlanned l.named l.laid.pieces.all needed soname l.lists.plan → named_symbols l ≡ map (dyn_symbol l.named l.laid) (exported l.named.table)
+pub symbols-made : (needed : List (List ℕ)) (soname : Option (List ℕ)) (l : Linked) → l.lists ≡ filled l.named l.lists.plan l.laid → IsPlanned l.named l.laid.pieces.all needed soname l.lists.plan → named_symbols l ≡ map (dyn_symbol l.named l.laid) (exported l.named.table)
 unfolding filled planned
 symbols-made needed soname l is h =
     let rows : l.lists.plan.symbols ≡ exported l.named.table = ap (λ (p : Planned). p.symbols) h.is in
@@ -174,7 +174,7 @@ relas-made : (l : Linked) → l.lists ≡ filled l.named l.lists.plan l.laid →
 unfolding filled
 relas-made l is = ap (λ (x : CapTableValue). x.relas) is
 
-caps-made : (l : Linked) → l.lists ≡ filled l.named l.lists.plan l.laid → l.lists.cap_relocs ≡ map (cap_reloc_of l.laid) (filter (λ w. is_described w.kind w.target) (wants l.named l.lists.plan l.laid))
+pub caps-made : (l : Linked) → l.lists ≡ filled l.named l.lists.plan l.laid → l.lists.cap_relocs ≡ map (cap_reloc_of l.laid) (filter (λ w. is_described w.kind w.target) (wants l.named l.lists.plan l.laid))
 unfolding filled
 caps-made l is = ap (λ (x : CapTableValue). x.cap_relocs) is
 

@@ -211,7 +211,7 @@ unfolding held
 held-long kind t addend h = held-one (is_fixed t) t addend (width_of kind) (slot-wide kind h)
 
 -- ---- folds
-fold-keeps : {A X : Type 0} (P : A → Type 0) (Q : X → Type 0) (f : A → X → A) → ((a : A) (x : X) → P a → Q x → P (f a x)) → (a : A) (xs : List X) → P a → AllByRecursion Q xs → P (fold f a xs)
+pub fold-keeps : {A X : Type 0} (P : A → Type 0) (Q : X → Type 0) (f : A → X → A) → ((a : A) (x : X) → P a → Q x → P (f a x)) → (a : A) (xs : List X) → P a → AllByRecursion Q xs → P (fold f a xs)
 fold-keeps P Q f keep a [] p q = p
 fold-keeps P Q f keep a (x ∷ xs) p q = fold-keeps P Q f keep (f a x) xs (keep a x p q.0) q.1
 

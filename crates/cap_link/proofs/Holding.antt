@@ -56,15 +56,15 @@ enumerated f d limit n (x ∷ xs) le h =
 all-numbered : {X : Type 0} (d : X) (xs : List X) → AllByRecursion (λ p. (p.0 < length xs) × (slice_index_or xs p.0 d ≡ p.1)) (enumerate_from 0 xs)
 all-numbered d xs = enumerated (λ (k : ℕ). slice_index_or xs k d) d (length xs) 0 xs (omega arith) (λ k lt. let e : 0 + k ≡ k = omega arith in ap (λ (j : ℕ). slice_index_or xs j d) e)
 
-first-true : (a b : Bool) → (a && b) ≡ true → a ≡ true
+pub first-true : (a b : Bool) → (a && b) ≡ true → a ≡ true
 first-true true b h = refl
 first-true false b h = h
 
-second-true : (a b : Bool) → (a && b) ≡ true → b ≡ true
+pub second-true : (a b : Bool) → (a && b) ≡ true → b ≡ true
 second-true true b h = h
 second-true false b h = absurd (cc)
 
-same-number : (n m : ℕ) → (n == m) ≡ true → n ≡ m
+pub same-number : (n m : ℕ) → (n == m) ≡ true → n ≡ m
 same-number n m h = grind arith
 
 abbrev pub IsNumberedFile : List RelObject → ℕ × RelObject → Type 0
@@ -116,10 +116,10 @@ pieces-held rels table read resolved =
 abbrev pub passing : {A : Type 0} → A → Result A Fault
 passing x = Ok x
 
-at-most : (a b : ℕ) → nat_le a b ≡ true → a ≤ b
+pub at-most : (a b : ℕ) → nat_le a b ≡ true → a ≤ b
 at-most a b h = grind arith
 
-not-common : (b : Bool) → not b ≡ true → b ≡ false
+pub not-common : (b : Bool) → not b ≡ true → b ≡ false
 not-common true h = absurd (cc)
 not-common false h = refl
 

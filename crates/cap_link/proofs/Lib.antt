@@ -20,3 +20,7 @@ pub mod FilesAre
 pub mod Accepted
 pub mod LinkLaw
 pub mod Holding
+pub mod Bounding
+pub mod Meaning
+pub mod Exactly
+pub mod Aliasing

@@ -17,7 +17,7 @@ use Rattle.cap_layout.specs.declared.parts.Sizes.{Sizes}
 use Rattle.cap_layout.specs.Pieces.{PieceList, piece_list, pieces_of}
 use Rattle.cap_layout.specs.Parts.{padded_ends}
 use Rattle.cap_layout.specs.Points.{Laid}
-use Rattle.cap_layout.specs.Laid.{span_limit, ends_low, laid_as, lay_of}
+use Rattle.cap_layout.specs.Laid.{span_limit, ends_low, laid_as, lay_of, ArePiecesOf, IsLayoutOf}
 use Rattle.cap_table.specs.Targets.{Named}
 use Rattle.cap_table.specs.Checks.{walk_of}
 use Rattle.cap_table.specs.Planned.{Planned, planned, plan_of}
@@ -37,8 +37,10 @@ same-accepted x y h = cc
 pub record Passes (files : FilesRead) (table : List Resolved) (kind : Kind) (l : Linked) : Type 0 where
   pub named : l.named ≡ record { rels = files.rels; table = table }
   pub pieces : l.laid.pieces ≡ piece_list files.rels table
+  pub apart : ArePiecesOf files.rels table l.laid.pieces
   pub plan : plan_of l.named l.laid.pieces.all files.needed (soname_of kind) ≡ Ok l.lists.plan
   pub laid : l.laid ≡ laid_as files.rels l.laid.pieces l.lists.plan.sizes
+  pub placed : IsLayoutOf files.rels l.laid.pieces l.lists.plan.sizes l.laid
   pub low : AllByRecursion IsLow (padded_ends l.laid.pieces.all l.lists.plan.sizes)
   pub lists : l.lists ≡ filled l.named l.lists.plan l.laid
   pub bodies : patch_of (record { named = l.named; laid = l.laid; lists = l.lists }) ≡ Ok l.bodies
@@ -89,8 +91,10 @@ linked-passed files table kind l h =
     let passes : Passes files table kind made = record {
       named = refl;
       pieces = sym same ∙ pieces-passed files.rels table pieces a.1;
+      apart = subst (ArePiecesOf files.rels table) same a.1;
       plan = ap (λ (q : PieceList). plan_of named q.all files.needed (soname_of kind)) (sym same) ∙ b.1;
       laid = lay.0 ∙ ap (λ (q : PieceList). laid_as files.rels q plan.sizes) same;
+      placed = subst (λ (q : PieceList). IsLayoutOf files.rels q plan.sizes laid) same c.1;
       low = subst (λ (q : PieceList). AllByRecursion IsLow (padded_ends q.all plan.sizes)) same lay.1;
       lists = refl;
       bodies = d.1;

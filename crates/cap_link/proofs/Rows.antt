@@ -26,7 +26,7 @@ one-row : (P : ℕ → Type 0) (b : Bool) (p : ℕ × Resolved) (ps : List (ℕ 
 one-row P true p ps h g = (h, g)
 one-row P false p ps h g = g
 
-rows-below : (limit n : ℕ) (table : List Resolved) → n + length table ≤ limit → AllByRecursion (λ row. row < limit) (rows_from n table)
+pub rows-below : (limit n : ℕ) (table : List Resolved) → n + length table ≤ limit → AllByRecursion (λ row. row < limit) (rows_from n table)
 rows-below limit n [] h = tt
 rows-below limit n (r ∷ rs) h =
     one-row (λ (row : ℕ). row < limit) (is_exported r) (n, r) (filter (λ (p : ℕ × Resolved). is_exported p.1) (enumerate_from (n + 1) rs)) (omega (arith, h)) (rows-below limit (n + 1) rs (omega (arith, h)))
@@ -44,7 +44,7 @@ one-ascends : (b : Bool) (p : ℕ × Resolved) (ps : List (ℕ × Resolved)) →
 one-ascends true p ps h g = (h, g)
 one-ascends false p ps h g = g
 
-rows-ascend : (n : ℕ) (table : List Resolved) → Ascend (rows_from n table)
+pub rows-ascend : (n : ℕ) (table : List Resolved) → Ascend (rows_from n table)
 rows-ascend n [] = tt
 rows-ascend n (r ∷ rs) =
     one-ascends (is_exported r) (n, r) (filter (λ (p : ℕ × Resolved). is_exported p.1) (enumerate_from (n + 1) rs)) (rows-above n (n + 1) rs (omega arith)) (rows-ascend (n + 1) rs)

@@ -4,6 +4,7 @@ use Rattle.cap_base.specs.declared.check.Check.TheVariants.{NeededName, Array}
 use Rattle.cap_base.specs.declared.kind.Kind.{Kind}
 use Rattle.cap_base.specs.declared.refusal.Fault.{Fault}
 use Rattle.cap_chain.specs.Adopted.{is_sound}
+use Rattle.cap_elf.specs.declared.records.Place.TheVariants as places
 use Rattle.cap_elf.specs.declared.records.Symbol.{Symbol}
 use Rattle.cap_elf.specs.DynView.{DynRecords, dyn_view}
 use Rattle.cap_elf.specs.Records.{null_symbol}
@@ -54,13 +55,15 @@ abbrev pub target_of_name : Linked → ℕ → Target
 target_of_name l i = row_target l.named (slice_index l.lists.plan.symbols i)
 
 -- two definitions are aliases: they cut one section of one file in one interval
-abbrev pub AreAliases : Linked → ℕ → ℕ → Type 0
-AreAliases l i j =
-    let t = target_of_name l i in
-    let u = target_of_name l j in
-    (t.file ≡ u.file) × (t.as_is.place ≡ u.as_is.place) × (t.as_is.value ≡ u.as_is.value) × (t.as_is.size ≡ u.as_is.size)
+pub record AreAliases (t u : Target) : Type 0 where
+  pub section : ℕ
+  pub file : t.file ≡ u.file
+  pub first : t.as_is.place ≡ places.Section section
+  pub second : u.as_is.place ≡ places.Section section
+  pub value : t.as_is.value ≡ u.as_is.value
+  pub size : t.as_is.size ≡ u.as_is.size
 
--- data symbols with one interval that is not empty are one symbol, or aliases
+-- data symbols of the linked file with one interval that is not empty are one, or stand for aliases
 abbrev pub EqualsAreAliases : Type 0
 EqualsAreAliases =
     (inputs : List Input) (kind : Kind) (l : Linked) (i j : ℕ) → IsAccepted inputs kind l
@@ -68,4 +71,4 @@ EqualsAreAliases =
     → is_data (symbol_of_name l i) ≡ true → is_data (symbol_of_name l j) ≡ true
     → (symbol_of_name l i).value ≡ (symbol_of_name l j).value → (symbol_of_name l i).size ≡ (symbol_of_name l j).size
     → 0 < (symbol_of_name l i).size
-    → (i ≡ j) ⊎ AreAliases l i j
+    → (i ≡ j) ⊎ AreAliases (target_of_name l i) (target_of_name l j)
