@@ -1,5 +1,5 @@
 -- The data of loaded objects are one, or share no byte: of one object, and of any two.
-use Rattle.std.proofs.Common.{◌≡◌, ◌⊎◌, ℕ, ◌+◌, ◌<◌, ◌≤◌, false, inl, inr, ⊎_elim, List, length, get_or, map, refl, ap, sym, subst, arith}
+use Rattle.std.proofs.Common.{◌≡◌, ℕ, ◌<◌, false, inl, inr, ⊎_elim, List, length, get_or, ap, sym, subst, arith}
 use Rattle.std.specs.Prelude.{All, AllPairs}
 use Rattle.std.proofs.lemmas.Bool.{cases_order, le-ltb, ltb-false}
 use Rattle.std.proofs.lemmas.List.{get_or-map, length-map}

@@ -1,13 +1,12 @@
 -- The bounds of a state's capabilities are those of data of the objects that own them.
-use Rattle.std.proofs.Common.{◌≡◌, ℕ, ◌<◌, true, false, inl, inr, List, length, get_or, map, sym, ◌∙◌, subst}
-use Rattle.std.specs.Prelude.{All, Contains, IfSome, Option, Some, slice_get, slice_index}
+use Rattle.std.proofs.Common.{ℕ, ◌<◌, inl, inr, List, length, get_or, map, sym, ◌∙◌, subst}
+use Rattle.std.specs.Prelude.{All, Contains, IfSome, Option, slice_get, slice_index}
 use Rattle.std.proofs.lemmas.Bool.{false≢true}
 use Rattle.std.proofs.lemmas.List.{get_or-map}
 use Rattle.std.proofs.lemmas.List.Elements.{All-weaker}
 use Rattle.std.proofs.lemmas.Option.{slice_get-get_or}
 use Rattle.cap_elf.specs.DynView.{DynRecords}
 use Rattle.cap_fits.specs.Fits.{loaded_intervals}
-use Rattle.cap_own.specs.Cap.{Cap}
 use Rattle.cap_reloc.specs.Wanted.{Content, Number, Untagged, Tagged, Pair}
 use Rattle.cap_scope.specs.Chosen.{no_records, object_at}
 use Rattle.cap_session.specs.Exact.{IsBoundOf}

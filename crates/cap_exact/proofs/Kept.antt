@@ -1,6 +1,6 @@
 -- Loads of files that a link wrote keep exact bounds.
-use Rattle.std.proofs.Common.{◌≡◌, ℕ, List, get_or, map, subst}
-use Rattle.std.specs.Prelude.{All, Ok}
+use Rattle.std.proofs.Common.{ℕ, get_or, subst}
+use Rattle.std.specs.Prelude.{All}
 use Rattle.std.proofs.lemmas.List.{get_or-map}
 use Rattle.std.proofs.lemmas.List.Elements.{All-weaker}
 use Rattle.std.proofs.lemmas.Option.{slice_get-get_or}
@@ -42,6 +42,7 @@ by-foreign files store run refusal h =
       objects = h.objects;
       start_count = h.start_count;
       openings = h.openings;
+      fetched = h.fetched;
       is_unfit = u;
       object = o;
       object_is = slice_get-get_or h.objects i no_object u.inside;

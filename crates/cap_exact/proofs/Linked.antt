@@ -1,7 +1,6 @@
 -- A file that a link wrote, and that is read, has exact bounds and data that lie apart.
-use Rattle.std.proofs.Common.{◌≡◌, ℕ, Bool, true, false, List, refl, ap, sym, ◌∙◌, subst}
+use Rattle.std.proofs.Common.{◌≡◌, ℕ, Bool, true, false, List, refl, sym, ◌∙◌, subst}
 use Rattle.std.specs.Prelude.{Result, Ok, Err}
-use Rattle.cap_base.specs.Steps.{◌>>=◌}
 use Rattle.cap_base.specs.declared.kind.Kind.{Kind}
 use Rattle.cap_elf.specs.DynView.{DynRecords, dyn_view}
 use Rattle.cap_fits.specs.Fits.{Apart, Fits}

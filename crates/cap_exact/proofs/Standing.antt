@@ -1,6 +1,6 @@
 -- What a path gives in a store is a file that stands there, and its records.
-use Rattle.std.proofs.Common.{◌≡◌, ℕ, ◌+◌, Bool, true, false, List, [], ◌∷◌, length, refl, ap, subst}
-use Rattle.std.specs.Prelude.{◌^◌, All, Option, Some, None, Result, Ok, Err, nat_lt, not}
+use Rattle.std.proofs.Common.{◌≡◌, ℕ, List, [], length, refl, subst}
+use Rattle.std.specs.Prelude.{◌^◌, All, Option, Some, None, Result, Ok, nat_lt, not}
 use Rattle.std.proofs.lemmas.List.Elements.{All-weaker}
 use Rattle.cap_base.specs.Check.{number_of}
 use Rattle.cap_base.specs.Outside.{Store, file_in}
