@@ -117,7 +117,7 @@ bound-of objects setting (Tagged c note) same bases narrowed (inr h) =
     inr (
       omega (arith, low, count),
       subst (λ (bs : List ℕ). Contains (loaded_intervals (object_at (map records_of objects) c.owner) (slice_index bs c.owner)) (c.base, c.len)) bases
-      (subst (λ (os : List DynRecords). Contains (loaded_intervals (object_at os c.owner) (slice_index setting.bases c.owner)) (c.base, c.len)) same h),
+          (subst (λ (os : List DynRecords). Contains (loaded_intervals (object_at os c.owner) (slice_index setting.bases c.owner)) (c.base, c.len)) same h),
     )
 
 pub bounds-of : (laws : PairLaws) (rule : Rule) (objects : List Loaded) (start_count : ℕ) (openings : List Opening) (i : ℕ) (pairs : List Pair) → IsRelocated objects start_count openings i
@@ -147,5 +147,5 @@ bound-stays objects more (Tagged c note) (inr h) =
     inr (
       omega (arith, low, many),
       subst (λ (b : ℕ). Contains (loaded_intervals (object_at (map records_of (objects ++ more)) c.owner) b) (c.base, c.len)) (sym base)
-      (subst (λ (o : DynRecords). Contains (loaded_intervals o (slice_index (map (λ (o : Loaded). o.base) objects) c.owner)) (c.base, c.len)) (sym object) h.1),
+          (subst (λ (o : DynRecords). Contains (loaded_intervals o (slice_index (map (λ (o : Loaded). o.base) objects) c.owner)) (c.base, c.len)) (sym object) h.1),
     )
