@@ -1,6 +1,6 @@
 -- An accepted link gives a plan of a file that can be read back.
 use Rattle.std.proofs.Common.{◌≡◌, ℕ, suc, zero, ◌+◌, ◌*◌, ◌^◌, ◌≤◌, ◌<◌, Bool, true, false, not, cond, List, [], ◌∷◌, ◌++◌, length, map, drop, refl, sym, ap, ◌∙◌, subst, arith, Option, Some, None}
-use Rattle.std.specs.Prelude.{filter, All, IfSome, option_to_list, unwrap_or, ◌==◌, ◌&&◌, pos, ◌+ℤ◌}
+use Rattle.std.specs.Prelude.{filter, IfSome, option_to_list, unwrap_or, ◌==◌, ◌&&◌, pos, ◌+ℤ◌}
 use Rattle.std.specs.Int.{is_power_of_two}
 use Rattle.std.specs.List.{range_with_len, AllByRecursion}
 use Rattle.std.specs.Option.{option_map, option_and_then}
@@ -51,7 +51,7 @@ use Rattle.cap_link.proofs.Lowering.{Fits, low-ends, low-pieces, IsLowLaid, low-
 use Rattle.cap_link.proofs.Numbers.{HaveFields, fields-are, IsGoodWant, wants-good, reloc-good, cap-good, all-filtered, all-mapped, all-weaker, all-planned, IsGoodSymbol, place-low}
 use Rattle.cap_link.proofs.Rows.{exported-good, exported-apart}
 use Rattle.cap_link.proofs.Plain.{IsShort, IsGoodName, words-from, own-word}
-use Rattle.cap_link.proofs.Filling.{backward, IsHeld, bodies-long, bodies-count, class-filled, held-at}
+use Rattle.cap_link.proofs.Filling.{backward, IsHeld, bodies-long, bodies-count, class-filled}
 use Rattle.cap_link.proofs.Holding.{pieces-held, steps-placed}
 use Rattle.cap_link.proofs.Aligning.{grows, HasPower, pieces-align, whole-aligned}
 use Rattle.cap_link.proofs.FilesAre.{files-sound, own-names-good, AreFlags, flags-good}

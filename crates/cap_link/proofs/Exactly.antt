@@ -1,5 +1,5 @@
 -- In a linked file the bounds of data and of code are exact wherever it is loaded, and those of data lie apart.
-use Rattle.std.proofs.Common.{◌≡◌, ℕ, ◌+◌, ◌-◌, ◌*◌, ◌%◌, ◌≤◌, ◌<◌, min, max, Bool, true, false, not, cond, List, [], ◌∷◌, ◌++◌, length, map, refl, sym, ap, ◌∙◌, subst, arith, ◌⊎◌, inl, inr, ⊎_elim, Option, Some}
+use Rattle.std.proofs.Common.{◌≡◌, ℕ, ◌+◌, ◌-◌, ◌*◌, ◌≤◌, ◌<◌, min, max, Bool, true, false, not, cond, List, [], ◌∷◌, ◌++◌, length, map, refl, sym, ap, ◌∙◌, subst, arith, ◌⊎◌, inl, inr, ⊎_elim, Option, Some}
 use Rattle.std.specs.Prelude.{AllPairs, IfSome, filter, slice_index_or, nat_lt, ◌&&◌}
 use Rattle.std.specs.Int.{next_multiple_of}
 use Rattle.std.specs.List.{reduce, AllByRecursion}

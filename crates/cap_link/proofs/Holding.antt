@@ -1,47 +1,31 @@
 -- Every piece has its bytes, and every step of the walk lies in its piece.
-use Rattle.std.proofs.Common.{◌≡◌, ℕ, suc, ◌+◌, ◌-◌, ◌^◌, ◌≤◌, ◌<◌, Bool, true, false, not, cond, List, [], ◌∷◌, ◌++◌, length, map, fold, min, drop, refl, sym, ap, ◌∙◌, subst, arith, ⊎_elim, Some, None, Result, Ok, Err}
-use Rattle.std.specs.Prelude.{filter, zip, slice_index_or, nat_le, nat_lt, ◌&&◌, ◌==◌, ok_or}
-use Rattle.std.specs.Int.{is_power_of_two, trailing_zeros, w64}
-use Rattle.std.specs.List.{flat_map, enumerate_from, cons_option, AllByRecursion}
-use Rattle.std.proofs.lemmas.Bool.{cases_lt}
+use Rattle.std.proofs.Common.{◌≡◌, ℕ, suc, ◌+◌, ◌≤◌, ◌<◌, Bool, true, false, not, List, [], ◌∷◌, ◌++◌, length, refl, sym, ap, ◌∙◌, subst, arith, Some, Result, Ok, Err}
+use Rattle.std.specs.Prelude.{slice_index_or, nat_le, ◌&&◌, ◌==◌, ok_or}
+use Rattle.std.specs.List.{flat_map, enumerate_from, AllByRecursion}
 use Rattle.std.proofs.lemmas.List.Quantifiers.{position-Some}
 use Rattle.cap_base.specs.Steps.{◌>>=◌, fault, steps, in_file}
 use Rattle.cap_base.specs.declared.check.Check.TheVariants.{RelocationKind, RelocationOffset, RelocationSlot, Addend}
 use Rattle.cap_base.specs.declared.refusal.Fault.{Fault}
-use Rattle.cap_conc.specs.Computed.{representable_alignment}
-use Rattle.cap_elf.specs.declared.records.Class.{Class}
-use Rattle.cap_elf.specs.declared.records.Class.TheVariants.{Ro, Code, Init, Fini, Relro, Data, Bss, Dropped}
-use Rattle.cap_elf.specs.declared.records.Place.{Place}
-use Rattle.cap_elf.specs.declared.records.Place.TheVariants as places
 use Rattle.cap_elf.specs.declared.records.Reloc.{Reloc}
-use Rattle.cap_elf.specs.declared.records.Section.{Section}
-use Rattle.cap_elf.specs.declared.records.Symbol.{Symbol}
-use Rattle.cap_elf.specs.Classes.{is_kept, is_split, same_class}
-use Rattle.cap_elf.specs.IsRelRead.{IsRelRead, IsRelSymbol, IsSection, IsPlaced}
-use Rattle.cap_elf.specs.RelObject.{RelObject, no_object, no_section, file_of, section_of, symbol_of}
+use Rattle.cap_elf.specs.IsRelRead.{IsRelRead}
+use Rattle.cap_elf.specs.RelObject.{RelObject, no_object, file_of, section_of}
 use Rattle.cap_elf.proofs.Passing.{bind_passed, check_passed, choice_passed, some_passed, same_value}
-use Rattle.cap_syms.specs.declared.entries.Entry.{Entry}
-use Rattle.cap_syms.specs.declared.entries.Shape.{Shape}
-use Rattle.cap_syms.specs.declared.entries.Shape.TheVariants as shapes
-use Rattle.cap_syms.specs.IsResolved.{IsShapeOf, IsRow, IsResolved}
+use Rattle.cap_syms.specs.IsResolved.{IsResolved}
 use Rattle.cap_syms.specs.Resolved.{Resolved}
 use Rattle.cap_layout.proofs.PieceAll.{IsIn, all_are}
 use Rattle.cap_layout.proofs.PieceCommons.{commons_are}
 use Rattle.cap_layout.specs.IsPiece.{IsPiece, IsPieceOf}
 use Rattle.cap_layout.specs.declared.piece.Piece.{Piece}
-use Rattle.cap_layout.specs.Cuts.{splits, cut_at, is_one_section, with_mark, cuts_section, cut_ends, marks, intervals}
-use Rattle.cap_layout.specs.Pieces.{own_alignment, split_piece, whole_piece, section_pieces, file_pieces, class_pieces, common_piece, common_pieces, class_order, all_pieces, no_piece, piece_of, is_of_section, holds_field, field_piece}
+use Rattle.cap_layout.specs.Pieces.{class_pieces, common_pieces, class_order, all_pieces, no_piece, piece_of, is_of_section, holds_field, field_piece}
 use Rattle.cap_table.proofs.BodyRoom.{padded_long}
 use Rattle.cap_table.specs.declared.target.Step.{Step}
 use Rattle.cap_table.specs.Kinds.{width_of, is_accepted, is_passed_over}
 use Rattle.cap_table.specs.Targets.{Named, target_of}
 use Rattle.cap_table.specs.Checks.{no_reloc, reloc_of, refuses_target, clashes, addend_passes, checked_piece, record_step, file_steps, walk_of}
-use Rattle.cap_readback.proofs.Aligned.{max-power}
 use Rattle.cap_link.proofs.Placing.{all-both}
-use Rattle.cap_link.proofs.Segmented.{same-is}
-use Rattle.cap_link.proofs.Numbers.{recursed, all-weaker}
-use Rattle.cap_link.proofs.Filling.{IsHeld, IsPlacedWith, IsPlacedStep, Passed, all-passed, held-at, steps-keep, backward}
-use Rattle.cap_link.proofs.Aligning.{HasPower, grows, pow-power, alignment-power}
+use Rattle.cap_link.proofs.Numbers.{all-weaker}
+use Rattle.cap_link.proofs.Filling.{IsHeld, IsPlacedWith, IsPlacedStep, held-at, steps-keep, backward}
+use Rattle.cap_link.proofs.Aligning.{HasPower}
 
 -- ---- numbered lists
 -- each member is what a function gives of its number, which is below a limit

@@ -1,26 +1,18 @@
 -- All addresses of a layout are low.
-use Rattle.std.proofs.Common.{◌≡◌, ℕ, suc, zero, ◌+◌, ◌-◌, ◌^◌, ◌≤◌, Bool, true, false, cond, List, [], ◌∷◌, ◌++◌, map, refl, sym, ◌∙◌, subst, arith, Option, Some, None}
-use Rattle.std.specs.Prelude.{filter, slice_index, slice_index_or}
+use Rattle.std.proofs.Common.{◌≡◌, ℕ, suc, zero, ◌+◌, ◌^◌, ◌≤◌, Bool, true, false, cond, List, [], ◌∷◌, ◌++◌, refl, sym, ◌∙◌, subst, arith, Option, Some, None}
+use Rattle.std.specs.Prelude.{slice_index, slice_index_or}
 use Rattle.std.specs.Option.{option_map, option_or}
-use Rattle.std.specs.List.{flat_map, enumerate_from, cons_option, AllByRecursion}
-use Rattle.cap_conc.specs.Computed.{representable_length}
-use Rattle.cap_elf.specs.declared.records.Class.{Class}
+use Rattle.std.specs.List.{AllByRecursion}
 use Rattle.cap_elf.specs.declared.records.Class.TheVariants.{Ro, Code, Init, Fini, Relro, Data, Bss}
-use Rattle.cap_elf.specs.declared.records.Section.{Section}
-use Rattle.cap_elf.specs.Classes.{same_class, is_split}
 use Rattle.cap_elf.specs.RelObject.{RelObject}
-use Rattle.cap_syms.specs.declared.entries.Entry.{Entry}
-use Rattle.cap_syms.specs.declared.entries.Shape.{Shape}
-use Rattle.cap_syms.specs.declared.entries.Shape.TheVariants as shapes
 use Rattle.cap_syms.specs.Resolved.{Resolved}
 use Rattle.cap_layout.specs.declared.piece.Piece.{Piece}
 use Rattle.cap_layout.specs.declared.parts.Sizes.{Sizes}
-use Rattle.cap_layout.specs.Cuts.{intervals}
 use Rattle.cap_layout.specs.Places.{addresses, ends, of_class}
-use Rattle.cap_layout.specs.Pieces.{section_pieces, split_piece, whole_piece, file_pieces, class_pieces, common_piece, common_pieces, all_pieces, class_order, no_piece, piece_of, last_where}
+use Rattle.cap_layout.specs.Pieces.{class_pieces, all_pieces, no_piece, piece_of, last_where}
 use Rattle.cap_layout.specs.Parts.{parts_of, addresses_of, padded_ends, names_end, stubs_end, slots_end}
 use Rattle.cap_layout.specs.Points.{Laid, address_of}
-use Rattle.cap_link.proofs.Placing.{joined, joined_addresses, IsLow, AreLow, low-last, low-joined, all-front, all-back, all-both}
+use Rattle.cap_link.proofs.Placing.{joined, joined_addresses, IsLow, AreLow, low-last, low-joined, all-front, all-back}
 use Rattle.cap_link.proofs.Segmented.{segments_of, zero_pieces, picked-are, pieces-are, addresses-are, ro_from, code_from, init_from, fini_from, relro_from}
 
 abbrev pub some : ℕ → Option ℕ

@@ -1,5 +1,5 @@
 -- What the targets of a link mean, and the intervals of data that its lists give.
-use Rattle.std.proofs.Common.{◌≡◌, ℕ, ◌+◌, ◌^◌, ◌≤◌, ◌<◌, Bool, true, false, not, cond, List, [], ◌∷◌, ◌++◌, map, refl, sym, ap, ◌∙◌, subst, arith, ◌⊎◌, inr, Option, Some, None}
+use Rattle.std.proofs.Common.{◌≡◌, ℕ, ◌+◌, ◌^◌, Bool, true, false, not, cond, List, [], ◌∷◌, ◌++◌, map, refl, sym, ap, ◌∙◌, subst, arith, inr, Option, Some, None}
 use Rattle.std.specs.Prelude.{filter, IfSome, unwrap_or, nat_lt, ◌&&◌, ◌==◌}
 use Rattle.std.specs.List.{list_any, enumerate_from, AllByRecursion}
 use Rattle.cap_elf.specs.declared.records.CapReloc.{CapReloc}
