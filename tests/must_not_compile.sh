@@ -1,7 +1,8 @@
 #!/usr/bin/env bash
 # What the types alone refuse: each snippet here must not compile, with the named error. No proof is tried.
 #
-# A capability can be made from the root of a mapping alone, and a span of addresses can't be let go.
+# A capability can be made from the root of a mapping alone, and a root from a span of addresses, which can be neither
+# copied nor let go.
 set -u
 cd "$(dirname "$0")/.." || exit 2
 . tests/beside.sh
@@ -39,11 +40,41 @@ pub fn forge(root: &Root) -> Derived<'_> {
 }
 CODE
 
+refuse private-field "a part of a mapping with bounds of one's own" <<'CODE'
+use cap_own::{Perms, Root, Seg};
+
+pub fn forge(root: &Root) -> Seg<'_> {
+    Seg {
+        root,
+        base: 0,
+        len: 16,
+        perms: Perms::DATA,
+        flag: false,
+    }
+}
+CODE
+
+refuse private-field "a mapping that no object has" <<'CODE'
+use cap_own::{Root, Span};
+
+pub fn forge(span: Span) -> Root {
+    Root { span, owner: 0 }
+}
+CODE
+
 refuse private-field "a span of addresses that no space gave" <<'CODE'
 use cap_own::Span;
 
 pub fn forge() -> Span {
     Span { base: 0, len: 4096 }
+}
+CODE
+
+refuse unsupported-method "a second owner of a span" <<'CODE'
+use cap_own::Span;
+
+pub fn double(span: &Span) -> Span {
+    span.clone()
 }
 CODE
 

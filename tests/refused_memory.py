@@ -1,9 +1,9 @@
 #!/usr/bin/env python3
 """Refuses each allocation of a run in turn: refused_memory.py PROGRAM.
 
-The program must answer as it does with ample memory, or 12; then it has created no file. A library of the C compiler
-that is loaded before the others refuses the allocation of the number that it is told. Skipped where there is no C
-compiler."""
+The program must answer as it does with ample memory, or 12; then it has created no file, and says that memory ran out
+behind what it had told. It says nothing where the words themselves did not fit. A library of the C compiler that is
+loaded before the others refuses the allocation of the number that it is told. Skipped where there is no C compiler."""
 import os
 import shutil
 import subprocess
@@ -13,8 +13,10 @@ from pathlib import Path
 
 EXAMPLES = Path(__file__).resolve().parent.parent / "examples"
 sys.path.insert(0, str(EXAMPLES))
-from make_program import app, libgreet, libplugin  # noqa: E402
+from make_program import NOP, app, libgreet, libplugin  # noqa: E402
 from shared_object import NOTYPE, Relocation, SharedObject, Symbol, written  # noqa: E402
+import objects  # noqa: E402
+from objects import CALL, COMMON, data, function, relocatable, text, thing, zeros  # noqa: E402
 
 REFUSER = r"""
 #define _GNU_SOURCE
@@ -47,9 +49,19 @@ __attribute__((destructor)) static void tell(void) {
 """
 
 bad = SharedObject(data=bytes(16), symbols=[Symbol("gone", kind=NOTYPE)], relocations=[Relocation(("data", 0), 1)])
-OBJECTS = {"app": app, "libgreet.so": libgreet, "libplugin.so": libplugin, "libbad.so": bad}
+first = relocatable(
+    [text(NOP * 8), data(bytes(16))],
+    [function("_start", ".text", 0, 32), thing("table", ".data", 0, 16), objects.Symbol("helper"), objects.Symbol("count")],
+    {".text": [objects.Relocation(8, "helper", kind=CALL)], ".data": [objects.Relocation(0, "count")]})
+second = relocatable(
+    [text(NOP), zeros(5001)],
+    [function("helper", ".text", 0, 4), thing("count", COMMON, 8, 8), thing("buffer", ".bss", 0, 5001)])
+OBJECTS = {"app": written(app), "libgreet.so": written(libgreet), "libplugin.so": written(libplugin),
+           "libbad.so": written(bad), "first.o": first, "second.o": second}
+OUT_OF_MEMORY = b"purecap: out of memory\n"
 RUNS = ["load -o app.img app open:libplugin.so", "load -o app.img app open:libplugin.so open:libbad.so",
-        "load -o app.img app try:libbad.so open:libplugin.so", "show shown.img"]
+        "load -o app.img app try:libbad.so open:libplugin.so", "link -o app.img first.o second.o",
+        "link -o app.img --shared first first.o second.o libgreet.so", "show shown.img"]
 
 
 def main() -> None:
@@ -65,7 +77,7 @@ def main() -> None:
         refuser = folder / "refuser.so"
         subprocess.run([compiler, "-shared", "-fPIC", "-O2", "-o", str(refuser), str(folder / "refuser.c"), "-ldl"], check=True)
         for file, made in OBJECTS.items():
-            folder.joinpath(file).write_bytes(written(made))
+            folder.joinpath(file).write_bytes(made)
         image = folder / "app.img"
 
         def run(words: str, refused: int) -> tuple[int, bytes, bytes, bytes | None]:
@@ -80,11 +92,12 @@ def main() -> None:
             ample = run(words, -1)
             total = int(folder.joinpath("counted").read_text())
             same = starved = 0
+            lines = {b"", OUT_OF_MEMORY} | ({ample[2] + OUT_OF_MEMORY} if ample[0] == 0 else set())
             for refused in range(1, total + 1):
                 ended = run(words, refused)
                 if ended == ample:
                     same += 1
-                elif ended[0] == 12 and ended[1] == b"" and ended[3] is None:
+                elif ended[0] == 12 and ended[1] == b"" and ended[2] in lines and ended[3] is None:
                     starved += 1
                 else:
                     wrong += 1

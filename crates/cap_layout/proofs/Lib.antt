@@ -22,6 +22,10 @@ pub mod PlaceChains
 pub mod PlaceStages
 pub mod PlaceLemmas
 pub mod PlaceOrder
+pub mod Multiples
+pub mod PlaceExact
+pub mod CutMarks
+pub mod CutPlaces
 pub mod PointCommons
 pub mod PlaceHeld
 pub mod PointFound

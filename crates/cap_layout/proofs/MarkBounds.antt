@@ -63,7 +63,7 @@ split_kept Bss h = refl
 split_kept Dropped h = h
 
 -- a symbol ends within the section that it cuts
-placed_within : (secs : List Section) (s : Symbol) (p : Place) (n : ℕ) → IsPlaced secs s p → is_one_section (Some n) (cut_at secs s.size p) ≡ true → s.value + s.size ≤ (get_or secs n no_section).size
+pub placed_within : (secs : List Section) (s : Symbol) (p : Place) (n : ℕ) → IsPlaced secs s p → is_one_section (Some n) (cut_at secs s.size p) ≡ true → s.value + s.size ≤ (get_or secs n no_section).size
 placed_within secs s places.Undefined n placed h = absurd cc
 placed_within secs s places.Absolute n placed h = absurd cc
 placed_within secs s places.Common n placed h = absurd cc

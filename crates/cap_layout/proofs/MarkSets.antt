@@ -67,7 +67,7 @@ or-false true = refl
 or-false false = refl
 
 -- marks have the members of the list
-list_any-ascending : (p : ℕ → Bool) (xs : List ℕ) → list_any p (ascending xs) ≡ list_any p xs
+pub list_any-ascending : (p : ℕ → Bool) (xs : List ℕ) → list_any p (ascending xs) ≡ list_any p xs
 list_any-ascending p xs = list_any-fold p xs [] ∙ or-false (list_any p xs)
 
 Above-with_mark : (a : ℕ) (ms : List ℕ) (x : ℕ) → Above a ms → a < x → Above a (with_mark ms x)
@@ -105,7 +105,7 @@ Ascends-fold [] ms h = h
 Ascends-fold (x ∷ xs) ms h = Ascends-fold xs (with_mark ms x) (Ascends-with_mark ms x h)
 
 -- a number below all is no member
-no_member : (x : ℕ) (ms : List ℕ) → Above x ms → list_any (λ k. k == x) ms ≡ false
+pub no_member : (x : ℕ) (ms : List ℕ) → Above x ms → list_any (λ k. k == x) ms ≡ false
 no_member x [] h = refl
 no_member x (m ∷ ms) h =
     let other : (m == x) ≡ false = ne_eqb m x (λ e. omega (arith, e, h.0)) in

@@ -16,7 +16,7 @@ where_none test (x ∷ xs) h =
     let here : test x ≡ false = h 0 (omega arith) in
     ap (λ o. option_or (option_map (λ i. i + 1) o) (cond (test x) (Some 0) None)) rest ∙ ap (λ b. cond b (Some 0) None) here
 
-where_is : (test : Piece → Bool) (xs : List Piece) (i : ℕ) → i < length xs → test (get_or xs i no_piece) ≡ true → ((k : ℕ) → i < k → k < length xs → test (get_or xs k no_piece) ≡ false) → last_where test xs ≡ Some i
+pub where_is : (test : Piece → Bool) (xs : List Piece) (i : ℕ) → i < length xs → test (get_or xs i no_piece) ≡ true → ((k : ℕ) → i < k → k < length xs → test (get_or xs k no_piece) ≡ false) → last_where test xs ≡ Some i
 where_is test [] i lt here h = absurd (omega arith)
 where_is test (x ∷ xs) zero lt here h =
     let rest : last_where test xs ≡ None = where_none test xs (λ k l. h (suc k) (omega arith) (omega arith)) in
@@ -37,11 +37,11 @@ place_none test xs h =
     ap (λ n. cond (nat_lt n (length xs)) (Some n) None) is ∙ ap (λ b. cond b (Some (length xs)) None) (le-ltb (length xs) (length xs) (omega arith))
 
 -- ---- tests of one piece
-holds : (file section offset end : ℕ) (p : Piece) → is_of_section file section p ≡ true → p.start ≤ offset → end ≤ p.start + p.size → (is_of_section file section p && nat_le p.start offset && nat_le end (p.start + p.size)) ≡ true
+pub holds : (file section offset end : ℕ) (p : Piece) → is_of_section file section p ≡ true → p.start ≤ offset → end ≤ p.start + p.size → (is_of_section file section p && nat_le p.start offset && nat_le end (p.start + p.size)) ≡ true
 holds file section offset end p h s e =
     and_from (is_of_section file section p && nat_le p.start offset) (nat_le end (p.start + p.size)) (and_from (is_of_section file section p) (nat_le p.start offset) h (le-leb p.start offset s)) (le-leb end (p.start + p.size) e)
 
-fails : (file section offset end : ℕ) (p : Piece) → (is_of_section file section p ≡ true → p.start ≤ offset → end ≤ p.start + p.size → ⊥) → (is_of_section file section p && nat_le p.start offset && nat_le end (p.start + p.size)) ≡ false
+pub fails : (file section offset end : ℕ) (p : Piece) → (is_of_section file section p ≡ true → p.start ≤ offset → end ≤ p.start + p.size → ⊥) → (is_of_section file section p && nat_le p.start offset && nat_le end (p.start + p.size)) ≡ false
 fails file section offset end p never =
     false_from_ne_true (is_of_section file section p && nat_le p.start offset && nat_le end (p.start + p.size)) (λ h.
     let one = and_parts (is_of_section file section p && nat_le p.start offset) (nat_le end (p.start + p.size)) h in

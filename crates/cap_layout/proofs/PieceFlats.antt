@@ -34,7 +34,7 @@ pub flat_filter : {X Y : Type 0} (test : X → Bool) (f : X → List Y) (xs : Li
 flat_filter test f [] = refl
 flat_filter test f (x ∷ xs) = ap (λ ys. cond (test x) (f x) [] ++ ys) (flat_filter test f xs) ∙ flat_cond f (test x) x (filter test xs)
 
-at_number : {X : Type 0} (xs : List X) (i : ℕ) (d : X) → i < length xs → get_or (enumerate_from 0 xs) i (i, get_or xs i d) ≡ (i, get_or xs i d)
+pub at_number : {X : Type 0} (xs : List X) (i : ℕ) (d : X) → i < length xs → get_or (enumerate_from 0 xs) i (i, get_or xs i d) ≡ (i, get_or xs i d)
 at_number {X} xs i d lt =
     let e : 0 + i ≡ i = omega arith in
     get_or-enumerate_from 0 xs i (i, get_or xs i d) lt

@@ -48,7 +48,7 @@ class_found rels p h =
     ∙ get_or-map (λ s. s.class) (file_of rels p.file).sections p.place no_section Dropped h.section
     ∙ h.class)
 
-ordered : (rels : List RelObject) (table : List Resolved) → All IsRelRead rels → IsResolved rels table → AreOrdered (of_sections rels ++ common_pieces table) (length (of_sections rels)) (map section_classes rels)
+pub ordered : (rels : List RelObject) (table : List Resolved) → All IsRelRead rels → IsResolved rels table → AreOrdered (of_sections rels ++ common_pieces table) (length (of_sections rels)) (map section_classes rels)
 ordered rels table read resolved =
     let front = of_sections rels in
     let back = common_pieces table in

@@ -28,7 +28,7 @@ pow_power k =
 one_power : IsPower 1
 one_power = pow_power 0
 
-max_power : (a b : ℕ) → IsPower a → IsPower b → IsPower (max a b)
+pub max_power : (a b : ℕ) → IsPower a → IsPower b → IsPower (max a b)
 max_power a b h k =
     ⊎_elim
     (λ (lt : a < b). let is : b ≡ max a b = omega arith in subst IsPower is k)
@@ -42,7 +42,7 @@ min_power a b h k =
     (λ (le : b ≤ a). let is : b ≡ min a b = omega arith in subst IsPower is k)
     (cases_lt a b)
 
-representable_power : (size : ℕ) → IsPower (representable_alignment size)
+pub representable_power : (size : ℕ) → IsPower (representable_alignment size)
 unfolding representable_alignment
 representable_power size =
     cond_both (nat_lt (representable_length size) 4096) 1 (grain_of (representable_length size)) IsPower (λ _. one_power) (λ _. pow_power (highest_bit (representable_length size) - 9))

@@ -91,13 +91,13 @@ same_as order file section offset p q r f s h k =
     record { file_is = two.0; place_is = three.0; ends = three.1.0 }
 
 -- ---- the pieces of a section
-parts_of : (file section : ℕ) (p : Piece) → is_of_section file section p ≡ true → (p.common ≡ false) × (p.file ≡ file) × (p.place ≡ section)
+pub parts_of : (file section : ℕ) (p : Piece) → is_of_section file section p ≡ true → (p.common ≡ false) × (p.file ≡ file) × (p.place ≡ section)
 parts_of file section p h =
     let one = and_parts (not p.common && (p.file == file)) (p.place == section) h in
     let two = and_parts (not p.common) (p.file == file) one.0 in
     (not-true p.common two.0, eqb-true p.file file two.1, eqb-true p.place section one.1)
 
-of_section : (file section : ℕ) (p : Piece) → p.common ≡ false → p.file ≡ file → p.place ≡ section → is_of_section file section p ≡ true
+pub of_section : (file section : ℕ) (p : Piece) → p.common ≡ false → p.file ≡ file → p.place ≡ section → is_of_section file section p ≡ true
 of_section file section p c f s = and_from (not p.common && (p.file == file)) (p.place == section) (and_from (not p.common) (p.file == file) (not_from_false p.common c) (eq-eqb p.file file f)) (eq-eqb p.place section s)
 
 module _ (all : List Piece) (sections : ℕ) (classes : List (List Class)) (ordered : AreOrdered all sections classes) (order file section offset count : ℕ) (own : order ≡ rank (class_at classes file section)) (few : count ≤ sections) (below : (k : ℕ) → k < count → is_up_to order file section offset (piece_of all k) ≡ true) (above : (k : ℕ) → count ≤ k → k < sections → is_up_to order file section offset (piece_of all k) ≡ false) where

@@ -7,7 +7,7 @@ use Rattle.cap_layout.specs.Parts.{whole_alignment}
 use Rattle.cap_layout.specs.Segments.{largest_of}
 use Rattle.cap_conc.specs.Computed.{representable_alignment}
 
-fold_push : (m : ℕ) (xs : List ℕ) (x : ℕ) → fold max m (xs ++ x ∷ []) ≡ max (fold max m xs) x
+pub fold_push : (m : ℕ) (xs : List ℕ) (x : ℕ) → fold max m (xs ++ x ∷ []) ≡ max (fold max m xs) x
 fold_push m [] x = refl
 fold_push m (y ∷ ys) x = fold_push (max m y) ys x
 

@@ -16,6 +16,8 @@ use Rattle.cap_layout.specs.Places.{InClassOrder}
 use Rattle.cap_layout.specs.Points.{Laid}
 use Rattle.cap_layout.specs.Running.{Placed, AreLow}
 use Rattle.cap_layout.specs.Segments.{all_places}
+use Rattle.cap_layout.specs.Exact.{IsExactlyLaid}
+use Rattle.cap_layout.proofs.PlaceExact.{exactly_laid}
 use Rattle.cap_layout.proofs.PlaceOrder.{is_laid}
 
 module _ (rels : List RelObject) (pieces : PieceList) (n : Sizes) (sound : All IsPiece pieces.all) (of_inputs : All (IsPieceOf rels) pieces.all) (order : InClassOrder pieces.all) (all : List Piece) (same : all ≡ pieces.all) (placed : Placed) (parts : Parts) (places : (placed, parts) ≡ all_places all n) (addresses : List ℕ) (same_addresses : addresses ≡ placed.addresses) where
@@ -36,6 +38,7 @@ module _ (rels : List RelObject) (pieces : PieceList) (n : Sizes) (sound : All I
       let end_is : placed.end ≡ (parts_of pieces.all n).mem_end = ap (λ (v : Placed × Parts). v.0.end) (places ∙ ap (λ ps. all_places ps n) same) in
       record {
         is_laid = subst (λ l. IsLaid l) (sym is_laid_as) (is_laid rels pieces n sound order (subst (λ e. e ≤ 2 ^ 26) end_is end_low));
+        exact = subst (λ l. IsExactlyLaid l) (sym is_laid_as) (exactly_laid rels pieces n sound order);
         sound = sound;
         of_inputs = of_inputs;
         low = all_low;

@@ -28,11 +28,11 @@ aligned (p ∷ ps) h =
 class_aligned : (class : Class) (pieces : List Piece) → All IsPiece pieces → AllAligned (of_class class pieces)
 class_aligned class pieces h = aligned (of_class class pieces) (All-filter (λ p. same_class p.class class) IsPiece pieces h)
 
-array_above : (end : ℕ) (ps : List Piece) → end ≤ array_start end ps
+pub array_above : (end : ℕ) (ps : List Piece) → end ≤ array_start end ps
 array_above end [] = omega arith
 array_above end (p ∷ ps) = omega arith
 
-range_above : (n : ℕ) → n ≤ representable_length (next_multiple_of n 4096)
+pub range_above : (n : ℕ) → n ≤ representable_length (next_multiple_of n 4096)
 range_above n =
     let rounded = (IsRepresentableLength-computed (next_multiple_of n 4096)).enough in omega (arith, rounded)
 

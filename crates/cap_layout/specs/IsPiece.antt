@@ -26,7 +26,8 @@ pub record IsPieceOf (rels : List RelObject) (p : Piece) : Type 0 where
   pub within : p.common ≡ false → p.start + p.size ≤ (section_of (file_of rels p.file) p.place).size
   pub zeros : p.common ≡ true → is_bss p.class ≡ true
 
--- each piece has its address, aligned and not below the padded end of the piece before it, and ends at 2 ^ 26 at most
+-- each piece has its address, aligned and not below the padded end of the piece before it, and the file's memory ends at
+-- 2 ^ 26 at most
 pub record IsLaid (laid : Laid) : Type 0 where
   pub count : length laid.addresses ≡ length laid.pieces.all
   pub placed : ArePlaced 0 laid.pieces.all laid.addresses

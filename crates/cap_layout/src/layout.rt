@@ -5,6 +5,7 @@ ghost use Rattle.cap_base.specs.Steps.{Yields, each};
 ghost use Rattle.cap_layout.specs.Laid.{lay_of, laid_as, ends_low, AreSmall};
 ghost use Rattle.cap_layout.specs.Parts.{padded_ends};
 ghost use Rattle.cap_layout.specs.IsPiece.{IsPieceOf, IsLaid};
+ghost use Rattle.cap_layout.specs.Exact.{IsExactlyLaid};
 
 use crate::alignment::check_files;
 use crate::classes::is_split;
@@ -86,6 +87,7 @@ pub fn lay<'a>(
     requires of_inputs { All (IsPieceOf rels.now) pieces.now.all }
     ensures value { Yields (λ laid. laid) result (lay_of rels.now pieces.now sizes.now) }
     ensures sound { IfOk result IsLaid }
+    ensures exact { IfOk result IsExactlyLaid }
 {
     let layout = place(alloc, rels, pieces, sizes)?;
     check_files(&layout, rels)?;
@@ -130,7 +132,8 @@ impl<'a> Layout<'a> {
     fn place_beside(&self, file: u32, section: u32, value: u64, addend: i64) -> Option<u64>
         ensures { result ≡ option_and_then (place_address self.now file section) (offset_of value addend) }
     {
-        // Every piece ends below 2^62, so none holds an offset that has more than 64 bits.
+        // Every piece ends below 2^62, so none holds an offset that has more than 64 bits. This is known of the layout
+        // once its pieces are read.
         let _ = &self.pieces;
         match value.checked_add_signed(addend) {
             Some(offset) => self.place(file, section, offset),

@@ -16,8 +16,9 @@
 //! - The ends of what is laid out are tried while it is laid out, and the first that is too far refuses. The definition
 //!   tries all of them in the order of the file, and has the places beside them (specs/Parts); the walk has the same ends
 //!   in the same order (specs/Segments).
-//! - Each piece of data can have a capability that is exact for it and reaches no other piece: its address is a multiple
-//!   of its alignment, and not below the padded end of the piece before (`IsPiece`, `IsLaid`).
+//! - Each piece of data has bounds that are exact and reach no other piece, wherever the file is loaded (`IsExactlyLaid`):
+//!   the file's alignment is a power of two that isn't below any piece's, so that each address stays a multiple of its
+//!   piece's representable alignment.
 //!
 //! Which symbols are kept, which sections lie in a file, and that relocations name what there is, is known from `cap_elf`;
 //! which definition a name has, and how large a common symbol is, from `cap_syms`. What the slots and the tables hold,
@@ -30,6 +31,7 @@ mod common_map;
 mod commons;
 mod cutting;
 mod finding;
+mod laws;
 mod layout;
 mod listed;
 mod making;
@@ -44,6 +46,7 @@ mod segments;
 mod stages;
 
 pub use cutting::pieces;
+pub use laws::layout_laws;
 pub use layout::{Layout, lay};
 pub use parts::{Parts, Sizes};
 pub use piece::Piece;

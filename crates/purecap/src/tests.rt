@@ -21,10 +21,13 @@ struct Outside {
     most: usize,
 }
 
+// No call has this number.
+const NEVER: u64 = 0;
+
 const CALM: Outside = Outside {
-    files: 0,
-    out: 0,
-    err: 0,
+    files: NEVER,
+    out: NEVER,
+    err: NEVER,
     most: usize::MAX,
 };
 
@@ -110,6 +113,27 @@ fn words_of(alloc: Global, words: &[&str]) -> Result<Words, NoMemory> {
     Ok(given)
 }
 
+// A run of a command that prints nothing, where this write to the error output fails: the memories that it keeps.
+fn run_quietly(
+    rt: &impl Abort,
+    alloc: Global,
+    words: &[&str],
+    files: &mut MemFiles,
+    failing: u64,
+    want: (u8, &str),
+) -> Result<Vec<Memory>, NoMemory> {
+    let given = words_of(alloc, words)?;
+    let mut out = MemSink::new(alloc);
+    let mut err = MemSink::new(alloc);
+    err.fail(failing)?;
+    let mut kept = Vec::new(alloc);
+    let status = run(alloc, &given, files, &mut out, &mut err, &mut kept);
+    assert_eq!(rt; status, want.0);
+    assert!(rt; out.bytes().is_empty());
+    assert_eq!(rt; err.bytes(), want.1.as_bytes());
+    Ok(kept)
+}
+
 // The status and the error output of a `load`: the memories that it keeps.
 fn load(
     rt: &impl Abort,
@@ -118,16 +142,22 @@ fn load(
     files: &mut MemFiles,
     want: (u8, &str),
 ) -> Result<Vec<Memory>, NoMemory> {
-    let given = words_of(alloc, words)?;
-    let mut out = MemSink::new(alloc);
-    let mut err = MemSink::new(alloc);
-    let mut kept = Vec::new(alloc);
-    let status = run(alloc, &given, files, &mut out, &mut err, &mut kept);
-    assert_eq!(rt; status, want.0);
-    assert!(rt; out.bytes().is_empty());
-    assert_eq!(rt; err.bytes(), want.1.as_bytes());
-    assert_eq!(rt; kept.is_empty(), status != 0);
+    let kept = run_quietly(rt, alloc, words, files, NEVER, want)?;
+    assert_eq!(rt; kept.is_empty(), want.0 != 0);
     Ok(kept)
+}
+
+// The status and the error output of a `link`, which keeps no memories.
+fn link(
+    rt: &impl Abort,
+    alloc: Global,
+    words: &[&str],
+    files: &mut MemFiles,
+    want: (u8, &str),
+) -> Result<(), NoMemory> {
+    let kept = run_quietly(rt, alloc, words, files, NEVER, want)?;
+    assert!(rt; kept.is_empty());
+    Ok(())
 }
 
 // The report of the image `i`.
@@ -425,6 +455,82 @@ fn each_call_of_the_store_fails(rt: HostRuntime) -> Result<(), Fail> {
     Ok(())
 }
 
+const GLOBAL_WORDS: [&str; 8] = [
+    "load",
+    "-o",
+    "i",
+    "-L",
+    "lib",
+    "--first-found",
+    "app",
+    "global:libp.so",
+];
+
+#[test]
+fn a_library_is_opened_for_all(rt: HostRuntime) -> Result<(), Fail> {
+    let alloc = rt.alloc();
+    let mut files = user_files(alloc)?;
+    let kept = load(&rt, alloc, &GLOBAL_WORDS, &mut files, (0, ""))?;
+    assert!(&rt; kept.len() == 3);
+    report(&rt, alloc, &mut files, USER_REPORT)?;
+    Ok(())
+}
+
+const TRY_TWICE: [&str; 9] = [
+    "load",
+    "-o",
+    "i",
+    "-L",
+    "lib",
+    "app",
+    "try:gone.so",
+    "try:lost.so",
+    "open:libp.so",
+];
+
+#[test]
+fn nothing_is_told_behind_a_failed_write(rt: HostRuntime) -> Result<(), Fail> {
+    let alloc = rt.alloc();
+    let mut files = user_files(alloc)?;
+    let kept = run_quietly(&rt, alloc, &TRY_TWICE, &mut files, 2, (0, "purecap: "))?;
+    assert!(&rt; kept.len() == 3);
+    report(&rt, alloc, &mut files, USER_REPORT)?;
+    Ok(())
+}
+
+const FIVE_WORDS: [&str; 8] = [
+    "load",
+    "-o",
+    "i",
+    "app",
+    "open:a.so",
+    "open:b.so",
+    "open:c.so",
+    "open:d.so",
+];
+
+// Five objects of 0x4000 bytes each.
+fn five_files(alloc: Global) -> Result<MemFiles, NoMemory> {
+    let object = objects::plain_object(alloc)?;
+    let mut files = MemFiles::new(alloc);
+    for name in ["app", "./a.so", "./b.so", "./c.so", "./d.so"] {
+        files.put(name, &object)?;
+    }
+    Ok(files)
+}
+
+// Each file takes three calls; then come `create` and two writes, of 65,536 bytes and of the others.
+#[test]
+fn the_second_write_of_an_image_fails(rt: HostRuntime) -> Result<(), Fail> {
+    let alloc = rt.alloc();
+    let mut files = five_files(alloc)?;
+    files.fail(18)?;
+    let fault = (11, "purecap: i: write fault\n");
+    load(&rt, alloc, &FIVE_WORDS, &mut files, fault)?;
+    assert_eq!(&rt; files.bytes("i").unwrap_or(b"").len(), 65_536);
+    Ok(())
+}
+
 // An object with one byte changed.
 fn changed(mut bytes: Vec<u8>, at: usize, byte: u8) -> Vec<u8> {
     if let Some(slot) = bytes.get_mut(at) {
@@ -539,8 +645,7 @@ fn link_refused(
     files: &mut MemFiles,
     want: (u8, &str),
 ) -> Result<(), NoMemory> {
-    let kept = load(rt, alloc, words, files, want)?;
-    assert!(rt; kept.is_empty());
+    link(rt, alloc, words, files, want)?;
     assert!(rt; files.bytes("a").is_none());
     Ok(())
 }
@@ -593,5 +698,70 @@ fn a_larger_file_is_not_linked(rt: HostRuntime) -> Result<(), Fail> {
     files.put("a.o", &bytes)?;
     let limit = (9, "purecap: limit file size\n");
     link_refused(&rt, alloc, &["link", "-o", "a", "a.o"], &mut files, limit)?;
+    Ok(())
+}
+
+// The store has these bytes under this name.
+fn has_file(rt: &impl Abort, files: &MemFiles, name: &str, want: &[u8]) {
+    assert!(rt; files.bytes(name) == Some(want));
+}
+
+const LIBRARY_WORDS: [&str; 6] = ["link", "-o", "out", "--shared", "libh.so", "h.o"];
+
+fn library_files(alloc: Global) -> Result<MemFiles, NoMemory> {
+    let mut files = MemFiles::new(alloc);
+    files.put("h.o", &objects::helper_source(alloc)?)?;
+    Ok(files)
+}
+
+#[test]
+fn a_library_is_linked(rt: HostRuntime) -> Result<(), Fail> {
+    let alloc = rt.alloc();
+    let mut files = library_files(alloc)?;
+    link(&rt, alloc, &LIBRARY_WORDS, &mut files, (0, ""))?;
+    has_file(&rt, &files, "out", &objects::helper_library(alloc)?);
+    Ok(())
+}
+
+const COUNT_WORDS: [&str; 6] = ["link", "-o", "libp.so", "--shared", "libp.so", "p.o"];
+
+#[test]
+fn a_library_with_a_capability_is_linked(rt: HostRuntime) -> Result<(), Fail> {
+    let alloc = rt.alloc();
+    let mut files = MemFiles::new(alloc);
+    files.put("p.o", &objects::count_source(alloc)?)?;
+    link(&rt, alloc, &COUNT_WORDS, &mut files, (0, ""))?;
+    has_file(&rt, &files, "libp.so", &objects::count_library(alloc)?);
+    Ok(())
+}
+
+const PROGRAM_WORDS: [&str; 6] = ["link", "-o", "app", "a.o", "b.o", "lib/libh.so"];
+
+fn program_files(alloc: Global) -> Result<MemFiles, NoMemory> {
+    let mut files = MemFiles::new(alloc);
+    files.put("a.o", &objects::first_source(alloc)?)?;
+    files.put("b.o", &objects::second_source(alloc)?)?;
+    files.put("lib/libh.so", &objects::helper_library(alloc)?)?;
+    Ok(files)
+}
+
+#[test]
+fn a_program_is_linked(rt: HostRuntime) -> Result<(), Fail> {
+    let alloc = rt.alloc();
+    let mut files = program_files(alloc)?;
+    link(&rt, alloc, &PROGRAM_WORDS, &mut files, (0, ""))?;
+    has_file(&rt, &files, "app", &objects::program(alloc)?);
+    Ok(())
+}
+
+// The file takes three calls; the fourth is `create`.
+#[test]
+fn a_linked_file_is_not_created(rt: HostRuntime) -> Result<(), Fail> {
+    let alloc = rt.alloc();
+    let mut files = library_files(alloc)?;
+    files.fail(4)?;
+    let fault = (11, "purecap: out: write fault\n");
+    link(&rt, alloc, &LIBRARY_WORDS, &mut files, fault)?;
+    assert!(&rt; files.bytes("out").is_none());
     Ok(())
 }

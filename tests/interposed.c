@@ -1,0 +1,73 @@
+/* Makes calls of the system fail or fall short; to be loaded before the C library.
+
+   Calls of open, and of read and write on what was opened, are counted from 1. FAILING_CALL is the number of the one
+   that fails; SHORTEST_CALLS is how many bytes a read or write moves at most, on standard output too. 0 is none. */
+#define _GNU_SOURCE
+#include <dlfcn.h>
+#include <errno.h>
+#include <fcntl.h>
+#include <stdarg.h>
+#include <stdlib.h>
+#include <unistd.h>
+
+static long count;
+
+static long told(const char *name) {
+    const char *given = getenv(name);
+    return given ? atol(given) : 0;
+}
+
+static int fails(void) {
+    if (++count != told("FAILING_CALL")) return 0;
+    errno = EIO;
+    return 1;
+}
+
+static size_t shortened(size_t bytes) {
+    size_t most = told("SHORTEST_CALLS");
+    return most && most < bytes ? most : bytes;
+}
+
+#define REAL(name, ...) \
+    static __typeof__(name) *real; \
+    if (!real) real = (__typeof__(name) *)dlsym(RTLD_NEXT, #name); \
+    return real(__VA_ARGS__)
+
+static mode_t mode_of(int flags, va_list rest) { return flags & O_CREAT ? va_arg(rest, mode_t) : 0; }
+
+int open(const char *path, int flags, ...) {
+    va_list rest;
+    va_start(rest, flags);
+    mode_t mode = mode_of(flags, rest);
+    va_end(rest);
+    if (fails()) return -1;
+    REAL(open, path, flags, mode);
+}
+
+int open64(const char *path, int flags, ...) {
+    va_list rest;
+    va_start(rest, flags);
+    mode_t mode = mode_of(flags, rest);
+    va_end(rest);
+    if (fails()) return -1;
+    REAL(open64, path, flags, mode);
+}
+
+int openat(int folder, const char *path, int flags, ...) {
+    va_list rest;
+    va_start(rest, flags);
+    mode_t mode = mode_of(flags, rest);
+    va_end(rest);
+    if (fails()) return -1;
+    REAL(openat, folder, path, flags, mode);
+}
+
+ssize_t read(int file, void *into, size_t bytes) {
+    if (file > 2 && fails()) return -1;
+    REAL(read, file, into, shortened(bytes));
+}
+
+ssize_t write(int file, const void *from, size_t bytes) {
+    if (file > 2 && fails()) return -1;
+    REAL(write, file, from, shortened(bytes));
+}
