@@ -17,3 +17,4 @@ pub mod LinkSteps
 pub mod LinkEnds
 pub mod Causes
 pub mod Answered
+pub mod ExactRuns

@@ -10,3 +10,4 @@ pub mod Run
 pub mod Printing
 pub mod Calling
 pub mod Inputs
+pub mod Exact

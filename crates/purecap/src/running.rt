@@ -2,6 +2,7 @@
 
 ghost use Rattle.std.specs.Prelude.{◌≡◌, []};
 ghost use Rattle.purecap.specs.Words.{command_of as command_in};
+ghost use Rattle.purecap.specs.Exact.{IsExactRun};
 ghost use Rattle.purecap.specs.Printing.{shown_path as shown_path_in};
 ghost use Rattle.purecap.specs.Run.{counted, streamed, stored, Disk, IsUntouched, IsKept, Runs, Answers, HasCauses, Ends, Shows, end_status as status_of_end};
 
@@ -11,6 +12,7 @@ use crate::loading::load;
 use crate::showing::show;
 use crate::words::{Command, command_of};
 use cap_base::{Files, Sink, Words};
+use cap_exact::exact_laws;
 use cap_mem::Memory;
 use std::alloc::Global;
 
@@ -52,7 +54,11 @@ pub fn run<F: Files, O: Sink, E: Sink>(
         (streamed (O.told out.old) (O.told out.new) (O.faults out.old) (O.faults out.new))
         (streamed (E.told err.old) (E.told err.new) (E.faults err.old) (E.faults err.new))
         kept.new.items result }
+
+    // `load` refuses no bounds of a file that `link` wrote, and the data of all such files that are loaded lie apart.
+    ensures exact { IsExactRun (command_in words.now) (F.told files.old) result }
 {
+    exact_laws();
     perform(alloc, words, files, out, err, kept)
 }
 
