@@ -6,8 +6,11 @@ cd "$(dirname "$0")/.." || exit 2
 root=$PWD
 folder=$(mktemp -d) || exit 2
 trap 'rm -rf "$folder"' EXIT
-python3 examples/make_program.py "$folder" || exit 2
+python3 examples/make_objects.py "$folder" || exit 2
 cd "$folder" || exit 2
+"$program" link -o libgreet.so --shared libgreet.so greet.o || exit 1
+"$program" link -o libplugin.so --shared libplugin.so plugin.o libgreet.so || exit 1
+"$program" link -o app main.o counter.o libgreet.so || exit 1
 printf 'PURECAPI\1\0\0\0\0\0\0\0' > empty
 mkdir folder
 many() { printf "$1%.0s" $(seq "$2"); }
