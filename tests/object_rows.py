@@ -5,6 +5,7 @@ import struct
 from objects import (ALIGN, ALLOCATED, BRANCH, CAPABILITY, COMMON, FUNCTION, INIT_ARRAY, JAL, LOCAL, NOTYPE, OBJECT,
                      PCREL_HIGH, PCREL_LOW, SECTION, SYMTAB, WORD_64, Made, Relocation, Section, Sparse, Symbol, data,
                      function, initial_calls, label, relocatable, shared, text, thing, u16, u32, u64, up, zeros)
+from header_cases import HEADER_CASES, M, U
 from row import Holds, Row, Run
 from users_case import NOP
 
@@ -46,17 +47,11 @@ def info(kind: int, binding: int = 1) -> bytes:
 HEADER = {kind: at["header " + kind] for kind in SECTIONS}
 SYMBOL = {name: at["symbol " + name] for name in ("target", "f", "d", "c", "z", "high")}
 TEXT, DATA = at["records .text"], at["records .data"]
-M, U = "malformed", "unsupported"
 LONG = 1 << 26
 
 # name, the changed bytes, the class of the refusal, its text and its offset
 CASES: list[tuple[str, dict[int, bytes], str, str, int]] = [
-    ("another magic number", {0: b"\x7eELF"}, M, "magic", 0),
-    ("32 bits", {4: b"\1"}, U, "class", 4),
-    ("the other byte order", {5: b"\2"}, U, "byte order", 5),
-    ("another version in front", {6: b"\0"}, M, "ident version", 6),
-    ("another machine", {18: u16(62)}, U, "machine", 18),
-    ("another version of the file", {20: u32(2)}, M, "file version", 20),
+    *HEADER_CASES,
     ("the version stands before the type", {20: u32(2), 16: u16(2)}, M, "file version", 20),
     ("a program at a fixed address", {16: u16(2)}, U, "e_type", 16),
     ("no flag of the profile", {48: u32(0)}, U, "pure-capability flags", 48),

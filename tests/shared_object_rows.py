@@ -4,6 +4,7 @@ from objects import (INIT, INIT_SIZE, COMMON, COPY, DYNAMIC, ENTRIES, ENTRIES_SI
                      RELOCATIONS, RELOCATIONS_SIZE, RELOCATION_SIZE, RELRO, SONAME, STRINGS, STRINGS_SIZE, SYMBOLS,
                      SYMBOL_SIZE, WEAK, Made, Relocation, Sparse, Symbol, function, program_header, shared, thing, u16,
                      u32, u64)
+from header_cases import HEADER_CASES, M, U
 from row import Holds, Row, Run
 
 PASSED_OVER = 21
@@ -22,7 +23,6 @@ good = Made(without_jump.but({JUMPS_AT: u64(0x2020, 2 << 32 | JUMP_SLOT, 0)}), a
 HEADER = {name: 64 + 56 * number for number, name in enumerate(["read", "code", "written", "dynamic", "relro"])}
 A, F = at["symbol a"], at["symbol f"]
 DYNAMIC_AT, HASH_AT, FIRST, SECOND, ENTRY = 0x800, 0x400, 0x600, 0x618, 0x700
-M, U = "malformed", "unsupported"
 
 
 def header(name: str, field: str) -> int:
@@ -44,12 +44,7 @@ def without(number: int) -> dict[int, bytes]:
 
 # name, the changed bytes, the class of the refusal, its text and its offset
 CASES: list[tuple[str, dict[int, bytes], str, str, int]] = [
-    ("another magic number", {0: b"\x7eELF"}, M, "magic", 0),
-    ("32 bits", {4: b"\1"}, U, "class", 4),
-    ("the other byte order", {5: b"\2"}, U, "byte order", 5),
-    ("another version in front", {6: b"\0"}, M, "ident version", 6),
-    ("another machine", {18: u16(62)}, U, "machine", 18),
-    ("another version of the file", {20: u32(2)}, M, "file version", 20),
+    *HEADER_CASES,
     ("an object that isn't linked", {16: u16(1)}, U, "e_type", 16),
     ("a program at a fixed address", {16: u16(2)}, U, "e_type", 16),
     ("one flag of two", {48: u32(0x10000)}, U, "pure-capability flags", 48),
