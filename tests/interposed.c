@@ -33,34 +33,21 @@ static size_t shortened(size_t bytes) {
     if (!real) real = (__typeof__(name) *)dlsym(RTLD_NEXT, #name); \
     return real(__VA_ARGS__)
 
-static mode_t mode_of(int flags, va_list rest) { return flags & O_CREAT ? va_arg(rest, mode_t) : 0; }
+/* A call that opens a file: these are its arguments and their types, up to the flags; a mode follows where it creates. */
+#define OPENS(name, given, ...) \
+    int name(given, int flags, ...) { \
+        va_list rest; \
+        va_start(rest, flags); \
+        mode_t mode = flags & O_CREAT ? va_arg(rest, mode_t) : 0; \
+        va_end(rest); \
+        if (fails()) return -1; \
+        REAL(name, __VA_ARGS__, flags, mode); \
+    }
+#define IN_FOLDER int folder, const char *path
 
-int open(const char *path, int flags, ...) {
-    va_list rest;
-    va_start(rest, flags);
-    mode_t mode = mode_of(flags, rest);
-    va_end(rest);
-    if (fails()) return -1;
-    REAL(open, path, flags, mode);
-}
-
-int open64(const char *path, int flags, ...) {
-    va_list rest;
-    va_start(rest, flags);
-    mode_t mode = mode_of(flags, rest);
-    va_end(rest);
-    if (fails()) return -1;
-    REAL(open64, path, flags, mode);
-}
-
-int openat(int folder, const char *path, int flags, ...) {
-    va_list rest;
-    va_start(rest, flags);
-    mode_t mode = mode_of(flags, rest);
-    va_end(rest);
-    if (fails()) return -1;
-    REAL(openat, folder, path, flags, mode);
-}
+OPENS(open, const char *path, path)
+OPENS(open64, const char *path, path)
+OPENS(openat, IN_FOLDER, folder, path)
 
 ssize_t read(int file, void *into, size_t bytes) {
     if (file > 2 && fails()) return -1;
