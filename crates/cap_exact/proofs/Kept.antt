@@ -32,7 +32,7 @@ is-foreign files store o h unfit = record {
   foreign = λ linked. unfit (linked-fits files o.source.bytes linked (records_of o) h.read).0;
 }
 
-by-foreign : FileLaws → (store : Store) (run : Run) (refusal : OpenRefusal) → IsUnfitIn (fetch_from store) run.rule run.dir refusal → BlamesForeign store run refusal
+by-foreign : FileLaws → (store : Store) (run : Run) (refusal : OpenRefusal) → IsUnfitIn (fetch_from store) run.dir run.main run.rule run.calls refusal → BlamesForeign store run refusal
 by-foreign files store run refusal h =
     let u = h.is_unfit in
     let i : ℕ = blamed u.index u.hit in
@@ -42,6 +42,7 @@ by-foreign files store run refusal h =
       objects = h.objects;
       start_count = h.start_count;
       openings = h.openings;
+      loaded_by = h.loaded_by;
       fetched = h.fetched;
       is_unfit = u;
       object = o;
@@ -59,7 +60,7 @@ loads-keep laws files store run = record {
   refuses = record {
     ended = λ refusal e inexact. by-foreign files store run refusal (laws.runs.ended store run.dir run.main run.rule run.calls refusal e inexact);
     noted =
-        All-weaker (λ (refusal : OpenRefusal). IsInexact refusal → IsUnfitIn (fetch_from store) run.rule run.dir refusal) (λ (refusal : OpenRefusal). IsInexact refusal → BlamesForeign store run refusal)
+        All-weaker (λ (refusal : OpenRefusal). IsInexact refusal → IsUnfitIn (fetch_from store) run.dir run.main run.rule run.calls refusal) (λ (refusal : OpenRefusal). IsInexact refusal → BlamesForeign store run refusal)
         (λ refusal h inexact. by-foreign files store run refusal (h inexact)) (outcome_in store run).notes (laws.runs.noted store run.dir run.main run.rule run.calls);
   };
   apart = λ state e.

@@ -8,7 +8,7 @@ use Rattle.cap_reloc.specs.Wanted.{Pair, Content, Number, Untagged, Tagged}
 use Rattle.cap_link.specs.Laws.{IsLinked}
 use Rattle.cap_session.specs.declared.refusal.OpenRefusal.{OpenRefusal}
 use Rattle.cap_session.specs.Calls.{Call, Outcome, outcome_of}
-use Rattle.cap_session.specs.Exact.{IsFetched, IsInexact, IsUnfit, blamed}
+use Rattle.cap_session.specs.Exact.{IsFetched, IsInexact, IsLoadedBy, IsUnfit, blamed}
 use Rattle.cap_session.specs.Loading.{Loaded, fetch_from, records_of}
 use Rattle.cap_session.specs.Scope.{Opening}
 use Rattle.cap_session.specs.State.{State}
@@ -29,12 +29,13 @@ pub record IsForeign (store : Store) (o : Loaded) : Type 0 where
   pub stands : file_in store path ≡ Some o.source.bytes
   pub foreign : IsLinked o.source.bytes → ⊥
 
--- a refusal for bounds speaks of a definition in, or of an entry of, an object whose file no link wrote, among objects whose
--- files the store gives
+-- a refusal for bounds speaks of a definition in, or of an entry of, an object whose file no link wrote, among the objects
+-- that the run loads
 pub record BlamesForeign (store : Store) (run : Run) (refusal : OpenRefusal) : Type 0 where
   pub objects : List Loaded
   pub start_count : ℕ
   pub openings : List Opening
+  pub loaded_by : IsLoadedBy (fetch_from store) run.dir run.main run.rule run.calls objects start_count openings
   pub fetched : All (IsFetched (fetch_from store)) objects
   pub is_unfit : IsUnfit run.rule run.dir objects start_count openings refusal
   pub object : Loaded

@@ -1,23 +1,22 @@
 -- What a run of calls says of its files, and of what refuses it for bounds.
-use Rattle.std.proofs.Common.{◌≡◌, ℕ, ◌+◌, ◌-◌, Bool, true, false, cond, List, [], ◌∷◌, ◌++◌, length, refl, ap, sym, ◌∙◌, subst}
+use Rattle.std.proofs.Common.{◌≡◌, ℕ, ◌+◌, ◌-◌, Bool, true, false, List, [], ◌∷◌, ◌++◌, length, refl, ap, sym, ◌∙◌, subst}
 use Rattle.std.specs.Prelude.{All, IfSome, Option, Some, None, Result, Ok, Err, is_some, nat_le, nat_lt, if◌then◌else◌}
 use Rattle.std.specs.Int.{next_multiple_of}
 use Rattle.std.specs.Result.{result_unwrap_or}
 use Rattle.std.proofs.lemmas.List.Elements.{All-cons, All-head, All-nil, All-push, All-tail}
 use Rattle.cap_base.specs.Check.{number_of}
-use Rattle.cap_base.specs.Steps.{◌>>=◌, ◌>>◌}
+use Rattle.cap_base.specs.Steps.{◌>>=◌}
 use Rattle.cap_base.specs.declared.check.Check.TheVariants.{ObjectCount}
 use Rattle.cap_scope.specs.declared.choice.Rule.{Rule}
 use Rattle.cap_reloc.specs.Wanted.{Pair}
 use Rattle.cap_session.specs.declared.form.Form.{Form}
 use Rattle.cap_session.specs.declared.refusal.Mode.{Mode}
-use Rattle.cap_session.specs.declared.refusal.OpenCause.{OpenCause}
 use Rattle.cap_session.specs.declared.refusal.OpenCause.TheVariants.{Full, Limit}
 use Rattle.cap_session.specs.declared.refusal.OpenRefusal.{OpenRefusal}
 use Rattle.cap_session.specs.Binding.{objects_of, pairs_from}
 use Rattle.cap_session.specs.Calls.{Call, after_call, after_calls, ending_of, is_passed_over, mode_of, notes_of, outcome_from, refused_calls, state_unless}
 use Rattle.cap_session.specs.Entering.{start_between}
-use Rattle.cap_session.specs.Exact.{GivesRead, IsFetched, IsInexact, IsReached, IsUnfitIn}
+use Rattle.cap_session.specs.Exact.{GivesRead, IsCallOf, IsFetched, IsInexact, IsReached, IsUnfitIn, by_call, by_start}
 use Rattle.cap_session.specs.Loading.{Fetch, Loaded, Source, answerer, at_path, closed, loaded_next, next_free, next_object, one_more, path_of, with_named, with_needed}
 use Rattle.cap_session.specs.State.{State, opened, opening_of, started}
 use Rattle.cap_session.proofs.Begins.{bind_ok, cause_ok_same, ok_same, seen_ok}
@@ -99,38 +98,80 @@ run-among laws fetch dir main rule calls state given e = go (started fetch dir m
         subst (λ (s : State). AreFetched fetch s.objects) (unless-ended (ending_of (refused_calls fetch dir rule first calls)) (after_calls fetch dir rule first calls) state e)
         (calls-among laws fetch dir rule first calls given (first-among laws fetch dir main rule first given is)).fetched
 
-abbrev IsBlamed : Fetch → Rule → List ℕ → OpenRefusal → Type 0
-IsBlamed fetch rule dir refusal = IsInexact refusal → IsUnfitIn fetch rule dir refusal
+abbrev IsBlamed : Fetch → List ℕ → List ℕ → Rule → List Call → OpenRefusal → Type 0
+IsBlamed fetch dir main rule all refusal = IsInexact refusal → IsUnfitIn fetch dir main rule all refusal
 
-start-blamed : (laws : PairLaws) (fetch : Fetch) (dir main : List ℕ) (rule : Rule) (refusal : OpenRefusal) → GivesRead fetch → started fetch dir main rule ≡ Err refusal → IsBlamed fetch rule dir refusal
-start-blamed laws fetch dir main rule refusal given e inexact =
+start-blamed : (laws : PairLaws) (fetch : Fetch) (dir main : List ℕ) (rule : Rule) (all : List Call) (refusal : OpenRefusal) → GivesRead fetch → started fetch dir main rule ≡ Err refusal → IsBlamed fetch dir main rule all refusal
+start-blamed laws fetch dir main rule all refusal given e inexact =
     let by = start-unfit laws fetch dir main rule refusal given e inexact in
-    record { objects = by.loaded; start_count = length by.loaded; openings = []; fetched = needed-fetched fetch dir [] main by.loaded (All-nil (IsFetched fetch)) by.objects_are; is_unfit = by.is_unfit }
+    record {
+      objects = by.loaded;
+      start_count = length by.loaded;
+      openings = [];
+      loaded_by = by_start by.objects_are refl refl;
+      fetched = needed-fetched fetch dir [] main by.loaded (All-nil (IsFetched fetch)) by.objects_are;
+      is_unfit = by.is_unfit;
+    }
 
-call-blamed : (laws : PairLaws) (fetch : Fetch) (dir : List ℕ) (rule : Rule) (state : State) (name : List ℕ) (mode : Mode) (refusal : OpenRefusal) → GivesRead fetch → IsAmong fetch state → opened fetch dir rule state name mode ≡ Err refusal → IsBlamed fetch rule dir refusal
-call-blamed laws fetch dir rule state name mode refusal given h e inexact =
-    let by = call-unfit laws fetch dir rule state name mode refusal given h.reached e inexact in
+call-blamed : (laws : PairLaws) (fetch : Fetch) (dir main : List ℕ) (rule : Rule) (all : List Call) (state : State) (call : Call) (refusal : OpenRefusal) → GivesRead fetch → IsAmong fetch state → IsCallOf fetch dir main rule all state call
+    → opened fetch dir rule state call.name (mode_of call.form) ≡ Err refusal → IsBlamed fetch dir main rule all refusal
+call-blamed laws fetch dir main rule all state call refusal given h made e inexact =
+    let by = call-unfit laws fetch dir rule state call.name (mode_of call.form) refusal given h.reached e inexact in
     record {
       objects = by.loaded;
       start_count = state.start_count;
-      openings = state.openings ++ opening_of by.loaded name mode ∷ [];
-      fetched = named-fetched fetch dir state.objects name (is_some (answerer state.objects name)) by.loaded h.fetched by.objects_are;
+      openings = state.openings ++ opening_of by.loaded call.name (mode_of call.form) ∷ [];
+      loaded_by = by_call state call made by.objects_are refl refl;
+      fetched = named-fetched fetch dir state.objects call.name (is_some (answerer state.objects call.name)) by.loaded h.fetched by.objects_are;
       is_unfit = by.is_unfit;
     }
 
 abbrev OfRefusal : (OpenRefusal → Type 0) → Form × OpenRefusal → Type 0
 OfRefusal Q r = Q r.1
 
-calls-blamed : (laws : PairLaws) (fetch : Fetch) (dir : List ℕ) (rule : Rule) (state : State) (calls : List Call) → GivesRead fetch → IsAmong fetch state → All (OfRefusal (IsBlamed fetch rule dir)) (refused_calls fetch dir rule state calls)
-calls-blamed laws fetch dir rule state [] given h = All-nil (OfRefusal (IsBlamed fetch rule dir))
-calls-blamed laws fetch dir rule state (call ∷ calls) given h =
-    go (calls-blamed laws fetch dir rule (after_call fetch dir rule state call) calls given (one-among laws fetch dir rule state call given h)) (opened fetch dir rule state call.name (mode_of call.form)) refl
+one-behind : (xs : List Call) (x : Call) (ys : List Call) → (xs ++ x ∷ []) ++ ys ≡ xs ++ x ∷ ys
+one-behind [] x ys = refl
+one-behind (z ∷ xs) x ys = ap (λ (r : List Call). z ∷ r) (one-behind xs x ys)
+
+after-one : (fetch : Fetch) (dir : List ℕ) (rule : Rule) (state : State) (before : List Call) (call : Call)
+    → after_calls fetch dir rule state (before ++ call ∷ []) ≡ after_call fetch dir rule (after_calls fetch dir rule state before) call
+after-one fetch dir rule state [] call = refl
+after-one fetch dir rule state (c ∷ before) call = after-one fetch dir rule (after_call fetch dir rule state c) before call
+
+-- the calls that are left, behind others of the run
+record IsAt (fetch : Fetch) (dir main : List ℕ) (rule : Rule) (all : List Call) (state : State) (left : List Call) : Type 0 where
+  pub first : State
+  pub begun : started fetch dir main rule ≡ Ok first
+  pub before : List Call
+  pub calls_are : all ≡ before ++ left
+  pub state_is : state ≡ after_calls fetch dir rule first before
+
+next-at : (fetch : Fetch) (dir main : List ℕ) (rule : Rule) (all : List Call) (state : State) (call : Call) (left : List Call) → IsAt fetch dir main rule all state (call ∷ left) → IsAt fetch dir main rule all (after_call fetch dir rule state call) left
+next-at fetch dir main rule all state call left h = record {
+  first = h.first;
+  begun = h.begun;
+  before = h.before ++ call ∷ [];
+  calls_are = h.calls_are ∙ sym (one-behind h.before call left);
+  state_is = ap (λ (s : State). after_call fetch dir rule s call) h.state_is ∙ sym (after-one fetch dir rule h.first h.before call);
+}
+
+call-at : (fetch : Fetch) (dir main : List ℕ) (rule : Rule) (all : List Call) (state : State) (call : Call) (left : List Call) → IsAt fetch dir main rule all state (call ∷ left) → IsCallOf fetch dir main rule all state call
+call-at fetch dir main rule all state call left h =
+    record { first = h.first; begun = h.begun; before = h.before; later = left; calls_are = h.calls_are; state_is = h.state_is }
+
+calls-blamed : (laws : PairLaws) (fetch : Fetch) (dir main : List ℕ) (rule : Rule) (all : List Call) (state : State) (calls : List Call) → GivesRead fetch → IsAmong fetch state → IsAt fetch dir main rule all state calls
+    → All (OfRefusal (IsBlamed fetch dir main rule all)) (refused_calls fetch dir rule state calls)
+calls-blamed laws fetch dir main rule all state [] given h at = All-nil (OfRefusal (IsBlamed fetch dir main rule all))
+calls-blamed laws fetch dir main rule all state (call ∷ calls) given h at =
+    go (calls-blamed laws fetch dir main rule all (after_call fetch dir rule state call) calls given (one-among laws fetch dir rule state call given h) (next-at fetch dir main rule all state call calls at))
+    (opened fetch dir rule state call.name (mode_of call.form)) refl
   where
-    go : All (OfRefusal (IsBlamed fetch rule dir)) (refused_calls fetch dir rule (after_call fetch dir rule state call) calls) → (r : Result State OpenRefusal) → opened fetch dir rule state call.name (mode_of call.form) ≡ r
-        → All (OfRefusal (IsBlamed fetch rule dir)) (elim r [ Ok next ↦ refused_calls fetch dir rule (after_call fetch dir rule state call) calls | Err refusal ↦ (call.form, refusal) ∷ refused_calls fetch dir rule (after_call fetch dir rule state call) calls ])
+    go : All (OfRefusal (IsBlamed fetch dir main rule all)) (refused_calls fetch dir rule (after_call fetch dir rule state call) calls) → (r : Result State OpenRefusal) → opened fetch dir rule state call.name (mode_of call.form) ≡ r
+        → All (OfRefusal (IsBlamed fetch dir main rule all)) (elim r [ Ok next ↦ refused_calls fetch dir rule (after_call fetch dir rule state call) calls | Err refusal ↦ (call.form, refusal) ∷ refused_calls fetch dir rule (after_call fetch dir rule state call) calls ])
     go rest (Ok next) e = rest
     go rest (Err refusal) e =
-        All-cons (OfRefusal (IsBlamed fetch rule dir)) (call.form, refusal) (refused_calls fetch dir rule (after_call fetch dir rule state call) calls) (call-blamed laws fetch dir rule state call.name (mode_of call.form) refusal given h e) rest
+        All-cons (OfRefusal (IsBlamed fetch dir main rule all)) (call.form, refusal) (refused_calls fetch dir rule (after_call fetch dir rule state call) calls)
+        (call-blamed laws fetch dir main rule all state call refusal given h (call-at fetch dir main rule all state call calls at) e) rest
 
 notes-of : (Q : OpenRefusal → Type 0) (rs : List (Form × OpenRefusal)) → All (OfRefusal Q) rs → All Q (notes_of rs)
 notes-of Q [] h = All-nil Q
@@ -152,19 +193,22 @@ ended-by : (Q : OpenRefusal → Type 0) (o : Option OpenRefusal) (state : State)
 ended-by Q None state refusal h e = absurd cc
 ended-by Q (Some r) state refusal h e = let same : r ≡ refusal = cc in subst Q same h
 
-pub ended-blamed : (laws : PairLaws) (fetch : Fetch) (dir main : List ℕ) (rule : Rule) (calls : List Call) (refusal : OpenRefusal) → GivesRead fetch → (outcome_from fetch dir rule calls (started fetch dir main rule)).«end» ≡ Err refusal → IsBlamed fetch rule dir refusal
+begins-at : (fetch : Fetch) (dir main : List ℕ) (rule : Rule) (calls : List Call) (first : State) → started fetch dir main rule ≡ Ok first → IsAt fetch dir main rule calls first calls
+begins-at fetch dir main rule calls first is = record { first = first; begun = is; before = []; calls_are = refl; state_is = refl }
+
+pub ended-blamed : (laws : PairLaws) (fetch : Fetch) (dir main : List ℕ) (rule : Rule) (calls : List Call) (refusal : OpenRefusal) → GivesRead fetch → (outcome_from fetch dir rule calls (started fetch dir main rule)).«end» ≡ Err refusal → IsBlamed fetch dir main rule calls refusal
 ended-blamed laws fetch dir main rule calls refusal given e = go (started fetch dir main rule) refl e
   where
-    go : (r : Result State OpenRefusal) → started fetch dir main rule ≡ r → (outcome_from fetch dir rule calls r).«end» ≡ Err refusal → IsBlamed fetch rule dir refusal
-    go (Err first) is e = let same : first ≡ refusal = cc in subst (IsBlamed fetch rule dir) same (start-blamed laws fetch dir main rule first given is)
+    go : (r : Result State OpenRefusal) → started fetch dir main rule ≡ r → (outcome_from fetch dir rule calls r).«end» ≡ Err refusal → IsBlamed fetch dir main rule calls refusal
+    go (Err first) is e = let same : first ≡ refusal = cc in subst (IsBlamed fetch dir main rule calls) same (start-blamed laws fetch dir main rule calls first given is)
     go (Ok first) is e =
-        ended-by (IsBlamed fetch rule dir) (ending_of (refused_calls fetch dir rule first calls)) (after_calls fetch dir rule first calls) refusal
-        (ending-of (IsBlamed fetch rule dir) (refused_calls fetch dir rule first calls) (calls-blamed laws fetch dir rule first calls given (first-among laws fetch dir main rule first given is))) e
+        ended-by (IsBlamed fetch dir main rule calls) (ending_of (refused_calls fetch dir rule first calls)) (after_calls fetch dir rule first calls) refusal
+        (ending-of (IsBlamed fetch dir main rule calls) (refused_calls fetch dir rule first calls) (calls-blamed laws fetch dir main rule calls first calls given (first-among laws fetch dir main rule first given is) (begins-at fetch dir main rule calls first is))) e
 
-pub noted-blamed : (laws : PairLaws) (fetch : Fetch) (dir main : List ℕ) (rule : Rule) (calls : List Call) → GivesRead fetch → All (IsBlamed fetch rule dir) (outcome_from fetch dir rule calls (started fetch dir main rule)).notes
+pub noted-blamed : (laws : PairLaws) (fetch : Fetch) (dir main : List ℕ) (rule : Rule) (calls : List Call) → GivesRead fetch → All (IsBlamed fetch dir main rule calls) (outcome_from fetch dir rule calls (started fetch dir main rule)).notes
 noted-blamed laws fetch dir main rule calls given = go (started fetch dir main rule) refl
   where
-    go : (r : Result State OpenRefusal) → started fetch dir main rule ≡ r → All (IsBlamed fetch rule dir) (outcome_from fetch dir rule calls r).notes
-    go (Err first) is = All-nil (IsBlamed fetch rule dir)
+    go : (r : Result State OpenRefusal) → started fetch dir main rule ≡ r → All (IsBlamed fetch dir main rule calls) (outcome_from fetch dir rule calls r).notes
+    go (Err first) is = All-nil (IsBlamed fetch dir main rule calls)
     go (Ok first) is =
-        notes-of (IsBlamed fetch rule dir) (refused_calls fetch dir rule first calls) (calls-blamed laws fetch dir rule first calls given (first-among laws fetch dir main rule first given is))
+        notes-of (IsBlamed fetch dir main rule calls) (refused_calls fetch dir rule first calls) (calls-blamed laws fetch dir main rule calls first calls given (first-among laws fetch dir main rule first given is) (begins-at fetch dir main rule calls first is))

@@ -15,7 +15,7 @@ use Rattle.cap_session.specs.declared.refusal.OpenCause.{OpenCause}
 use Rattle.cap_session.specs.declared.refusal.OpenCause.TheVariants.{NoFile, Malformed, Unsupported, Unresolved, Inexact, Full, Limit, ReadFault, NoMemory}
 use Rattle.cap_session.specs.declared.refusal.OpenRefusal.{OpenRefusal}
 use Rattle.cap_session.specs.Binding.{objects_of, setting_of, reloc_refusal}
-use Rattle.cap_session.specs.Calls.{Call, outcome_of}
+use Rattle.cap_session.specs.Calls.{Call, after_calls, mode_of, outcome_of}
 use Rattle.cap_session.specs.Loading.{Fetch, Loaded, Source, closed, fetch_from, first_unanswered, records_of, with_needed, with_named}
 use Rattle.cap_session.specs.Scope.{Opening}
 use Rattle.cap_session.specs.Session.{SessionValue, all_records}
@@ -142,11 +142,26 @@ pub record InexactIsUnfit : Type 0 where
 abbrev pub IsFetched : Fetch → Loaded → Type 0
 IsFetched fetch o = (path : List ℕ) × (fetch path ≡ Ok o.source)
 
--- a refusal for bounds among objects whose files paths give
-pub record IsUnfitIn (fetch : Fetch) (rule : Rule) (dir : List ℕ) (refusal : OpenRefusal) : Type 0 where
+-- a call of a run, and the state in which it is made: that to which the start and the calls before it lead
+pub record IsCallOf (fetch : Fetch) (dir main : List ℕ) (rule : Rule) (calls : List Call) (state : State) (call : Call) : Type 0 where
+  pub first : State
+  pub begun : started fetch dir main rule ≡ Ok first
+  pub before : List Call
+  pub later : List Call
+  pub calls_are : calls ≡ before ++ call ∷ later
+  pub state_is : state ≡ after_calls fetch dir rule first before
+
+-- the objects that the start of a run loads, or one of its calls, and the openings by which they are relocated
+pub data IsLoadedBy (fetch : Fetch) (dir main : List ℕ) (rule : Rule) (calls : List Call) (objects : List Loaded) (start_count : ℕ) (openings : List Opening) : Type 0 where
+  by_start : with_needed fetch dir [] main ≡ Ok objects → start_count ≡ length objects → openings ≡ [] → IsLoadedBy fetch dir main rule calls objects start_count openings
+  by_call : (state : State) (call : Call) → IsCallOf fetch dir main rule calls state call → with_named fetch dir state.objects call.name ≡ Ok objects → start_count ≡ state.start_count → openings ≡ state.openings ++ opening_of objects call.name (mode_of call.form) ∷ [] → IsLoadedBy fetch dir main rule calls objects start_count openings
+
+-- a refusal for bounds among the objects that a run loads
+pub record IsUnfitIn (fetch : Fetch) (dir main : List ℕ) (rule : Rule) (calls : List Call) (refusal : OpenRefusal) : Type 0 where
   pub objects : List Loaded
   pub start_count : ℕ
   pub openings : List Opening
+  pub loaded_by : IsLoadedBy fetch dir main rule calls objects start_count openings
   pub fetched : All (IsFetched fetch) objects
   pub is_unfit : IsUnfit rule dir objects start_count openings refusal
 
@@ -154,5 +169,5 @@ pub record IsUnfitIn (fetch : Fetch) (rule : Rule) (dir : List ℕ) (refusal : O
 -- over for them, only by an object that doesn't fit
 pub record RunsAreSound : Type 0 where
   pub fetched : (store : Store) (dir main : List ℕ) (rule : Rule) (calls : List Call) (state : State) → (outcome_of (fetch_from store) dir main rule calls).«end» ≡ Ok state → All (IsFetched (fetch_from store)) state.objects
-  pub ended : (store : Store) (dir main : List ℕ) (rule : Rule) (calls : List Call) (refusal : OpenRefusal) → (outcome_of (fetch_from store) dir main rule calls).«end» ≡ Err refusal → IsInexact refusal → IsUnfitIn (fetch_from store) rule dir refusal
-  pub noted : (store : Store) (dir main : List ℕ) (rule : Rule) (calls : List Call) → All (λ refusal. IsInexact refusal → IsUnfitIn (fetch_from store) rule dir refusal) (outcome_of (fetch_from store) dir main rule calls).notes
+  pub ended : (store : Store) (dir main : List ℕ) (rule : Rule) (calls : List Call) (refusal : OpenRefusal) → (outcome_of (fetch_from store) dir main rule calls).«end» ≡ Err refusal → IsInexact refusal → IsUnfitIn (fetch_from store) dir main rule calls refusal
+  pub noted : (store : Store) (dir main : List ℕ) (rule : Rule) (calls : List Call) → All (λ refusal. IsInexact refusal → IsUnfitIn (fetch_from store) dir main rule calls refusal) (outcome_of (fetch_from store) dir main rule calls).notes
