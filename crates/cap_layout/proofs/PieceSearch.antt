@@ -1,13 +1,13 @@
 -- One piece decides what an offset of a section finds among pieces in order.
-use Rattle.std.proofs.Common.{◌≡◌, ◌⊎◌, ℕ, ◌+◌, ◌<◌, ◌≤◌, Bool, true, false, not, ◌&&◌, cond, ⊎_elim, inl, inr, List, length, get_or, take, refl, sym, ap, ◌∙◌, subst, arith}
+use Rattle.std.proofs.Common.{◌≡◌, ◌⊎◌, ℕ, ◌+◌, ◌<◌, ◌≤◌, Bool, true, false, not, IsTrue, ◌&&◌, cond, ⊎_elim, inl, inr, List, length, get_or, take, refl, sym, ap, ◌∙◌, subst, arith}
 use Rattle.std.proofs.lemmas.List.{get_or-take, get_or_default, length-take-le}
 use Rattle.cap_elf.specs.declared.records.Class.TheVariants.{Ro}
 use Rattle.std.specs.Prelude.{◌==◌, nat_lt, nat_le}
-use Rattle.std.proofs.lemmas.Bool.{cases_lt, cases_eq, cond-true, cond-false, eq-eqb, ne_eqb, eqb-true, lt-ltb, ltb-true, leb-true, le-leb, and_parts, and_from, not-true, not_from_false, true≢false}
+use Rattle.std.proofs.lemmas.Bool.{cases_lt, cases_eq, cond-true, cond-false, eq-eqb, ne_eqb, eqb-true, lt-ltb, ltb-true, leb-true, le-leb, and_parts, and_from, not-true, not_from_false, true≢false, false_from_ne_true}
 use Rattle.cap_layout.specs.declared.piece.Piece.{Piece}
 use Rattle.cap_elf.specs.declared.records.Class.{Class}
 use Rattle.cap_layout.specs.Pieces.{piece_of, no_piece, is_of_section}
-use Rattle.cap_layout.specs.PieceOrder.{rank, Before, class_at, is_up_to, AreOrdered, IsLastFrom, NoneFrom}
+use Rattle.cap_layout.specs.PieceOrder.{rank, Before, class_at, is_up_to, AreOrdered, IsLastFrom, NoneFrom, begins_by}
 
 -- by a first number, and then by what follows
 abbrev Lex : ℕ → ℕ → Type 0 → Type 0
@@ -176,3 +176,70 @@ blank = record { file = 0; place = 0; common = false; class = Ro; start = 0; siz
 
 pub read_at : (all : List Piece) (sections k : ℕ) → sections ≤ length all → k < sections → get_or (take sections all) k blank ≡ piece_of all k
 read_at all sections k le lt = get_or_default (take sections all) k blank no_piece (omega (arith, length-take-le sections all le)) ∙ get_or-take sections all k no_piece lt
+
+-- ---- a guessed piece
+pub record BeginsBy (sections file section offset i : ℕ) (p : Piece) : Type 0 where
+  pub front : i < sections
+  pub file_is : p.file ≡ file
+  pub place_is : p.place ≡ section
+  pub begins : p.start ≤ offset
+
+begins_parts : (all : List Piece) (sections file section offset i : ℕ) → begins_by all sections file section offset i ≡ true → BeginsBy sections file section offset i (piece_of all i)
+begins_parts all sections file section offset i h =
+    let p = piece_of all i in
+    let one = and_parts (nat_lt i sections && (p.file == file) && (p.place == section)) (nat_le p.start offset) h in
+    let two = and_parts (nat_lt i sections && (p.file == file)) (p.place == section) one.0 in
+    let three = and_parts (nat_lt i sections) (p.file == file) two.0 in
+    record { front = ltb-true i sections three.0; file_is = eqb-true p.file file three.1; place_is = eqb-true p.place section two.1; begins = leb-true p.start offset one.1 }
+
+begins_from : (all : List Piece) (sections file section offset i : ℕ) → BeginsBy sections file section offset i (piece_of all i) → begins_by all sections file section offset i ≡ true
+begins_from all sections file section offset i h =
+    let p = piece_of all i in
+    and_from (nat_lt i sections && (p.file == file) && (p.place == section)) (nat_le p.start offset)
+    (and_from (nat_lt i sections && (p.file == file)) (p.place == section)
+    (and_from (nat_lt i sections) (p.file == file) (lt-ltb i sections h.front) (eq-eqb p.file file h.file_is)) (eq-eqb p.place section h.place_is))
+    (le-leb p.start offset h.begins)
+
+module _ (all : List Piece) (sections : ℕ) (classes : List (List Class)) (ordered : AreOrdered all sections classes) (file section offset : ℕ) where
+  abbrev own_order : ℕ
+  own_order = rank (class_at classes file section)
+
+  ranked : (k : ℕ) → k < sections → (piece_of all k).file ≡ file → (piece_of all k).place ≡ section → rank (piece_of all k).class ≡ own_order
+  ranked k lt f s =
+      ap rank (ordered.classes_are k lt ∙ ap (λ n. class_at classes n (piece_of all k).place) f ∙ ap (λ n. class_at classes file n) s)
+
+  module _ (i : ℕ) (here : BeginsBy sections file section offset i (piece_of all i)) where
+    own : is_up_to own_order file section offset (piece_of all i) ≡ true
+    own =
+        is_true own_order file section offset (piece_of all i) (inr (ranked i here.front here.file_is here.place_is, inr (here.file_is, inr (here.place_is, here.begins))))
+
+    back_from : (j k : ℕ) → j ≤ k → k < sections → is_up_to own_order file section offset (piece_of all k) ≡ true → is_up_to own_order file section offset (piece_of all j) ≡ true
+    back_from j k le lt held =
+        ⊎_elim
+        (λ (l : j < k). up_to_back own_order file section offset (piece_of all j) (piece_of all k) (ordered.ordered j k l lt) held)
+        (λ (l : k ≤ j). let same : k ≡ j = omega arith in subst (λ n. is_up_to own_order file section offset (piece_of all n) ≡ true) same held)
+        (cases_lt j k)
+
+    next_begins : i + 1 < sections → is_up_to own_order file section offset (piece_of all (i + 1)) ≡ true → BeginsBy sections file section offset (i + 1) (piece_of all (i + 1))
+    next_begins lt held =
+        let q = piece_of all (i + 1) in
+        let up = up_to own_order file section offset q held in
+        let same = same_as own_order file section offset (piece_of all i) q (ranked i here.front here.file_is here.place_is) here.file_is here.place_is (ordered.ordered i (i + 1) (omega arith) lt) up in
+        let one = lex_same (rank q.class) (rank q.class) own_order (Unit {0}) _ (ranked (i + 1) lt same.file_is same.place_is) (inr (refl, tt)) up in
+        let two = lex_same q.file q.file file (Unit {0}) _ same.file_is (inr (refl, tt)) one.2 in
+        let three = lex_same q.place q.place section (Unit {0}) _ same.place_is (inr (refl, tt)) two.2 in
+        record { front = lt; file_is = same.file_is; place_is = same.place_is; begins = three.2 }
+
+    last_here : (BeginsBy sections file section offset (i + 1) (piece_of all (i + 1)) → ⊥) → IsLastFrom all file section offset i
+    last_here next =
+        let front = here.front in
+        last_of all sections classes ordered own_order file section offset (i + 1) refl (omega arith)
+        (λ k lt. back_from k i (omega arith) front own)
+        (λ k le lt. false_from_ne_true (is_up_to own_order file section offset (piece_of all k)) (λ held. next (next_begins (omega arith) (back_from (i + 1) k le lt held))))
+        i refl here.file_is here.place_is
+
+-- a piece of the section that begins at the offset or before it is the last if the next is not such a one
+pub guessed : (all : List Piece) (sections : ℕ) (classes : List (List Class)) → AreOrdered all sections classes → (file section offset i : ℕ) (here next : Bool) → here ≡ begins_by all sections file section offset i → here ≡ true → next ≡ begins_by all sections file section offset (i + 1) → IsTrue (not next) → IsLastFrom all file section offset i
+guessed all sections classes ordered file section offset i here next first is second isnt =
+    last_here all sections classes ordered file section offset i (begins_parts all sections file section offset i (sym first ∙ is))
+    (λ h. true≢false (sym (begins_from all sections file section offset (i + 1) h) ∙ sym second ∙ not-true next isnt))

@@ -1,5 +1,5 @@
 -- The order of the pieces of sections, by which they are found.
-use Rattle.std.specs.Prelude.{◌≡◌, ◌⊎◌, ℕ, ◌+◌, ◌<◌, ◌≤◌, Bool, true, false, nat_lt, nat_le, ◌==◌, if◌then◌else◌, List, [], map, length, slice_index_or, All}
+use Rattle.std.specs.Prelude.{◌≡◌, ◌⊎◌, ℕ, ◌+◌, ◌<◌, ◌≤◌, Bool, true, false, ◌&&◌, nat_lt, nat_le, ◌==◌, if◌then◌else◌, List, [], map, length, slice_index_or, All}
 use Rattle.cap_elf.specs.declared.records.Class.{Class}
 use Rattle.cap_elf.specs.declared.records.Class.TheVariants.{Ro, Code, Init, Fini, Relro, Data, Bss, Dropped}
 use Rattle.cap_elf.specs.RelObject.{RelObject}
@@ -67,3 +67,8 @@ pub record IsLastFrom (all : List Piece) (file section offset i : ℕ) : Type 0 
 abbrev pub NoneFrom : List Piece → ℕ → ℕ → ℕ → Type 0
 NoneFrom all file section offset =
     (k : ℕ) → k < length all → is_of_section file section (piece_of all k) ≡ true → offset < (piece_of all k).start
+
+-- among the pieces of sections, that of this number is of this section, and begins at the offset or before it
+abbrev pub begins_by : List Piece → ℕ → ℕ → ℕ → ℕ → ℕ → Bool
+begins_by all sections file section offset i =
+    nat_lt i sections && (piece_of all i).file == file && (piece_of all i).place == section && nat_le (piece_of all i).start offset

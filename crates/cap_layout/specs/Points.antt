@@ -83,3 +83,13 @@ placed_interval laid file symbol s _ = None
 abbrev pub interval_of : Laid → ℕ → ℕ → Option (ℕ × ℕ)
 interval_of laid file symbol =
     let s = symbol_at laid file symbol in placed_interval laid file symbol s s.place
+
+abbrev pub placed_piece : Laid → ℕ → ℕ → Symbol → Place → Option ℕ
+placed_piece laid file symbol s (places.Section section) = piece_at laid.pieces.all file section s.value
+placed_piece laid file symbol s places.Common = common_index laid.pieces.all file symbol
+placed_piece laid file symbol s _ = None
+
+-- the piece in which a symbol stands
+abbrev pub symbol_piece : Laid → ℕ → ℕ → Option ℕ
+symbol_piece laid file symbol =
+    let s = symbol_at laid file symbol in placed_piece laid file symbol s s.place

@@ -16,15 +16,24 @@ const CAPABILITY: u32 = 193;
 /// The size of a capability.
 const GRANULE: u64 = 16;
 
-// The check of a record.
+// The number of the piece of a record's field, or the guess.
+fn near(layout: &Layout<'_>, guess: u32, file: u32, reloc: &Reloc) -> u32 {
+    layout
+        .pieces()
+        .find_near(guess, file, reloc.section, reloc.offset)
+        .unwrap_or(guess)
+}
+
+// The check of a record, which is likely in the guessed piece or in the next; its piece is the next guess.
 #[tactic(auto, unfolding(crate::specs::Laid::is_aligned))]
-fn check_record(layout: &Layout<'_>, file: u32, reloc: &Reloc) -> Result<(), Fault>
+fn check_record(layout: &Layout<'_>, guess: &mut u32, file: u32, reloc: &Reloc) -> Result<(), Fault>
     ensures { result ≡ is_aligned layout.now file reloc.now }
 {
     if reloc.kind != CAPABILITY {
         return Ok(());
     }
-    match layout.place(file, reloc.section, reloc.offset) {
+    *guess = near(layout, *guess, file, reloc);
+    match layout.place_near(*guess, file, reloc.section, reloc.offset) {
         Some(address) => refuse(address % GRANULE != 0, Check::CapabilityAlignment, reloc.at),
         None => Ok(()),
     }
@@ -34,8 +43,9 @@ fn check_record(layout: &Layout<'_>, file: u32, reloc: &Reloc) -> Result<(), Fau
 fn check_records(layout: &Layout<'_>, file: u32, relocs: &[Reloc]) -> Result<(), Fault>
     ensures { result ≡ each (is_aligned layout.now file) relocs.now }
 {
+    let mut guess = 0;
     for reloc in relocs {
-        check_record(layout, file, reloc)?;
+        check_record(layout, &mut guess, file, reloc)?;
     }
     Ok(())
 }

@@ -12,7 +12,7 @@ use crate::classes::is_split;
 use crate::common_map::CommonMap;
 use crate::parts::{Parts, Sizes};
 use crate::piece_list::Pieces;
-use crate::points::{class_of, find, is_loose, moved};
+use crate::points::{class_of, find_near, is_loose, moved};
 use crate::segments::place_all;
 use cap_base::Refusal;
 use cap_elf::{Place, RelFile, Symbol};
@@ -99,7 +99,7 @@ impl<'a> Layout<'a> {
     ghost use Rattle.cap_elf.specs.RelObject.{file_of};
     ghost use Rattle.std.specs.Option.{option_map, option_and_then};
     ghost use Rattle.cap_layout.specs.Pieces.{common_index};
-    ghost use Rattle.cap_layout.specs.Points.{address_of, place_address, offset_of, section_point as section_point_of, common_point as common_point_of, point_of, piece_interval as piece_interval_of, section_interval as section_interval_of, interval_of};
+    ghost use Rattle.cap_layout.specs.Points.{address_of, place_address, offset_of, section_point as section_point_of, common_point as common_point_of, point_of, symbol_piece as symbol_piece_of, piece_interval as piece_interval_of, section_interval as section_interval_of, interval_of};
 
     /// The pieces that were laid out.
     pub fn pieces(&self) -> &Pieces
@@ -123,20 +123,34 @@ impl<'a> Layout<'a> {
     pub fn place(&self, file: u32, section: u32, offset: u64) -> Option<u64>
         ensures { result ≡ place_address self.now file section offset }
     {
-        let piece = find(self.pieces, file, section, offset)?;
+        self.place_near(0, file, section, offset)
+    }
+
+    /// The same, found at once where the guess or the number after it is that of the piece. Any number may be guessed.
+    pub fn place_near(&self, guess: u32, file: u32, section: u32, offset: u64) -> Option<u64>
+        ensures { result ≡ place_address self.now file section offset }
+    {
+        let piece = find_near(self.pieces, guess, file, section, offset)?;
         let beyond = offset - self.pieces.get(piece).start;
         Some(self.address(piece) + beyond)
     }
 
     /// The address of the place that is an addend away from an offset of a section.
-    fn place_beside(&self, file: u32, section: u32, value: u64, addend: i64) -> Option<u64>
+    fn place_beside(
+        &self,
+        guess: u32,
+        file: u32,
+        section: u32,
+        value: u64,
+        addend: i64,
+    ) -> Option<u64>
         ensures { result ≡ option_and_then (place_address self.now file section) (offset_of value addend) }
     {
         // Every piece ends below 2^62, so none holds an offset that has more than 64 bits. This is known of the layout
         // once its pieces are read.
         let _ = &self.pieces;
         match value.checked_add_signed(addend) {
-            Some(offset) => self.place(file, section, offset),
+            Some(offset) => self.place_near(guess, file, section, offset),
             None => None,
         }
     }
@@ -150,15 +164,22 @@ impl<'a> Layout<'a> {
     }
 
     /// The point of a symbol of a section.
-    fn section_point(&self, file: u32, section: u32, symbol: &Symbol, addend: i64) -> Option<u64>
+    fn section_point(
+        &self,
+        guess: u32,
+        file: u32,
+        section: u32,
+        symbol: &Symbol,
+        addend: i64,
+    ) -> Option<u64>
         requires { file < length self.now.rels }
         ensures { result ≡ section_point_of self.now file section symbol.now addend }
     {
         let class = class_of(&self.rels[file as usize], section);
         if is_loose(class, symbol) {
-            self.place_beside(file, section, symbol.value, addend)
+            self.place_beside(guess, file, section, symbol.value, addend)
         } else {
-            let address = self.place(file, section, symbol.value)?;
+            let address = self.place_near(guess, file, section, symbol.value)?;
             Some(moved(address, addend))
         }
     }
@@ -180,16 +201,22 @@ impl<'a> Layout<'a> {
     }
 
     /// The interval of a symbol of a section.
-    fn section_interval(&self, file: u32, section: u32, symbol: &Symbol) -> Option<(u64, u64)>
+    fn section_interval(
+        &self,
+        guess: u32,
+        file: u32,
+        section: u32,
+        symbol: &Symbol,
+    ) -> Option<(u64, u64)>
         requires { file < length self.now.rels }
         ensures { result ≡ section_interval_of self.now file section symbol.now }
     {
         let class = class_of(&self.rels[file as usize], section);
         if is_split(class) && symbol.size != 0 {
-            let piece = find(self.pieces, file, section, symbol.value)?;
+            let piece = find_near(self.pieces, guess, file, section, symbol.value)?;
             Some(self.piece_interval(piece))
         } else {
-            let address = self.place(file, section, symbol.value)?;
+            let address = self.place_near(guess, file, section, symbol.value)?;
             Some((address, symbol.size))
         }
     }
@@ -202,6 +229,22 @@ impl<'a> Layout<'a> {
         Some(self.piece_interval(piece))
     }
 
+    /// The piece in which a symbol stands; None exactly where the symbol isn't defined in a kept section and isn't the one
+    /// that decides on a common name, or its value is outside its section. It is found at once where the guess or the
+    /// number after it is its number. Any number may be guessed.
+    pub fn piece_near(&self, guess: u32, file: u32, symbol: u32) -> Option<u32>
+        requires file { file < length self.now.rels }
+        requires symbol { symbol < length (file_of self.now.rels file).symbols }
+        ensures { result ≡ symbol_piece_of self.now file symbol }
+    {
+        let found = self.rels[file as usize].symbols()[symbol as usize];
+        match found.place {
+            Place::Section(section) => self.pieces.find_near(guess, file, section, found.value),
+            Place::Common => self.common(file, symbol),
+            Place::Undefined | Place::Absolute => None,
+        }
+    }
+
     /// The address that a symbol and an addend name, modulo 2^64. The symbol of a split section, and a local symbol
     /// without bytes in one, name the place of the section at their value and the addend; another symbol names its own
     /// address, and the addend is added to that. None exactly where the symbol isn't defined in a kept section and isn't
@@ -211,9 +254,18 @@ impl<'a> Layout<'a> {
         requires symbol { symbol < length (file_of self.now.rels file).symbols }
         ensures { result ≡ point_of self.now file symbol addend }
     {
+        self.point_near(0, file, symbol, addend)
+    }
+
+    /// The same, found at once where the guess or the number after it is that of the piece. Any number may be guessed.
+    pub fn point_near(&self, guess: u32, file: u32, symbol: u32, addend: i64) -> Option<u64>
+        requires file { file < length self.now.rels }
+        requires symbol { symbol < length (file_of self.now.rels file).symbols }
+        ensures { result ≡ point_of self.now file symbol addend }
+    {
         let found = self.rels[file as usize].symbols()[symbol as usize];
         match found.place {
-            Place::Section(section) => self.section_point(file, section, &found, addend),
+            Place::Section(section) => self.section_point(guess, file, section, &found, addend),
             Place::Common => self.common_point(file, symbol, addend),
             Place::Undefined | Place::Absolute => None,
         }
@@ -227,9 +279,18 @@ impl<'a> Layout<'a> {
         requires symbol { symbol < length (file_of self.now.rels file).symbols }
         ensures { result ≡ interval_of self.now file symbol }
     {
+        self.interval_near(0, file, symbol)
+    }
+
+    /// The same, found at once where the guess or the number after it is that of the piece. Any number may be guessed.
+    pub fn interval_near(&self, guess: u32, file: u32, symbol: u32) -> Option<(u64, u64)>
+        requires file { file < length self.now.rels }
+        requires symbol { symbol < length (file_of self.now.rels file).symbols }
+        ensures { result ≡ interval_of self.now file symbol }
+    {
         let found = self.rels[file as usize].symbols()[symbol as usize];
         match found.place {
-            Place::Section(section) => self.section_interval(file, section, &found),
+            Place::Section(section) => self.section_interval(guess, file, section, &found),
             Place::Common => self.common_interval(file, symbol),
             Place::Undefined | Place::Absolute => None,
         }

@@ -31,6 +31,7 @@ mod common_map;
 mod commons;
 mod cutting;
 mod finding;
+mod guessing;
 mod laws;
 mod layout;
 mod listed;

@@ -3,7 +3,8 @@
 ghost use Rattle.std.specs.Prelude.{◌≡◌, ℕ, All, length};
 
 use crate::classes::FileClasses;
-use crate::finding::{find_at, find_field, last_from};
+use crate::finding::{find_at, find_field};
+use crate::guessing::last_near;
 use crate::listed::Listed;
 use crate::piece::Piece;
 use cap_elf::Class;
@@ -87,10 +88,25 @@ impl Pieces {
     pub fn find(&self, file: u32, section: u32, offset: u64) -> Option<u32>
         ensures { result ≡ piece_at self.now.all file section offset }
     {
+        self.find_near(0, file, section, offset)
+    }
+
+    /// The same, found at once where the guess or the number after it is that of the piece. Any number may be guessed.
+    pub fn find_near(&self, guess: u32, file: u32, section: u32, offset: u64) -> Option<u32>
+        ensures { result ≡ piece_at self.now.all file section offset }
+    {
         let pieces = self.all.as_slice();
         find_at(
             pieces,
-            last_from(pieces, self.sections, &self.classes, file, section, offset),
+            last_near(
+                pieces,
+                self.sections,
+                &self.classes,
+                guess,
+                file,
+                section,
+                offset,
+            ),
             file,
             section,
             offset,
@@ -102,10 +118,33 @@ impl Pieces {
         requires some { 0 < size }
         ensures { result ≡ field_piece self.now.all file section offset size }
     {
+        self.holding_near(0, file, section, offset, size)
+    }
+
+    /// The same, found at once where the guess or the number after it is that of the piece. Any number may be guessed.
+    pub fn holding_near(
+        &self,
+        guess: u32,
+        file: u32,
+        section: u32,
+        offset: u64,
+        size: u64,
+    ) -> Option<u32>
+        requires some { 0 < size }
+        ensures { result ≡ field_piece self.now.all file section offset size }
+    {
         let pieces = self.all.as_slice();
         find_field(
             pieces,
-            last_from(pieces, self.sections, &self.classes, file, section, offset),
+            last_near(
+                pieces,
+                self.sections,
+                &self.classes,
+                guess,
+                file,
+                section,
+                offset,
+            ),
             file,
             section,
             offset,

@@ -17,11 +17,17 @@ const STT_SECTION: u8 = 3;
 const STB_LOCAL: u8 = 0;
 
 /// The piece of an offset of a section: it holds the offset, or ends there.
-pub(crate) fn find(pieces: &Pieces, file: u32, section: u32, offset: u64) -> Option<u32>
+pub(crate) fn find_near(
+    pieces: &Pieces,
+    guess: u32,
+    file: u32,
+    section: u32,
+    offset: u64,
+) -> Option<u32>
     ensures piece { result ≡ piece_at pieces.now.all file section offset }
     ensures holds { IfSome result (Holds pieces.now.all offset) }
 {
-    pieces.find(file, section, offset)
+    pieces.find_near(guess, file, section, offset)
 }
 
 /// The class of a section.
