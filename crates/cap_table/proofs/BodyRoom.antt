@@ -1,8 +1,8 @@
 -- Where fields lie in their pieces, and how long the bytes of pieces are.
-use Rattle.std.proofs.Common.{◌≡◌, ℕ, zero, suc, ⊎_elim, take, drop, length-append, length-take, length-drop, ◌+◌, ◌-◌, ◌*◌, ◌<◌, ◌≤◌, Bool, true, false, cond, List, [], ◌∷◌, ◌++◌, length, map, refl, sym, ap, subst, ◌∙◌, arith}
+use Rattle.std.proofs.Common.{◌≡◌, ℕ, zero, suc, ⊎_elim, take, drop, length-append, length-take, length-drop, ◌+◌, ◌-◌, ◌*◌, ◌<◌, ◌≤◌, Bool, true, false, cond, List, [], ◌∷◌, ◌++◌, length, map, replicate, refl, sym, ap, subst, ◌∙◌, arith}
 use Rattle.std.specs.Prelude.{IsTrue, not, nat_le, ◌&&◌, ◌==◌, slice_index_or, slice_set}
 use Rattle.std.proofs.lemmas.Bool.{and_parts, eqb-true, not-true, or_cases, true≢false}
-use Rattle.std.proofs.lemmas.List.{length-map, length-replicate}
+use Rattle.std.proofs.lemmas.List.{length-map, length-replicate, take_all}
 use Rattle.cap_conc.specs.Computed.{representable_length}
 use Rattle.cap_conc.proofs.ComputedLemmas.{IsRepresentableLength-computed}
 use Rattle.cap_elf.specs.declared.records.Class.{Class}
@@ -25,6 +25,12 @@ use Rattle.cap_table.specs.Checks.{reloc_of, target_at}
 use Rattle.cap_table.specs.Bodies.{BodiesValue, AreLong, body_length, put, put_in, piece_bytes, held, slot_held, with_held, offset_in_piece, zeros}
 use Rattle.cap_table.specs.Facts.{IsStepOf, HasSource, first_held}
 use Rattle.cap_table.proofs.BodyHeld.{held_capability, held_word, first_long, slots_long}
+
+-- bytes made longer by zeros
+pub padded_by : (old new : List ℕ) (count : ℕ) → new ≡ take (length old + count) old ++ replicate (length old + count - length old) 0 → new ≡ old ++ replicate count 0
+padded_by old new count e =
+    let left : length old + count - length old ≡ count = omega arith in
+    e ∙ ap (λ (bytes : List ℕ). bytes ++ zeros (length old + count - length old)) (take_all (length old + count) old (omega arith)) ∙ ap (λ (n : ℕ). old ++ zeros n) left
 
 -- padding doesn't shorten
 pub padded_long : (p : Piece) → IsPiece p → p.size ≤ p.padded

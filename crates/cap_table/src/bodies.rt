@@ -1,6 +1,6 @@
 //! The bytes of pieces, stubs and slots.
 
-ghost use Rattle.std.specs.Prelude.{◌≡◌, ◌++◌, ◌+◌, ◌-◌, ◌*◌, ◌<◌, ◌≤◌, [], ◌∷◌, All, IfOk, OnOk, IsTrue, true, replicate, fold, filter, map, length};
+ghost use Rattle.std.specs.Prelude.{◌≡◌, ◌++◌, ◌+◌, ◌-◌, ◌*◌, ◌^◌, ◌<◌, ◌≤◌, [], ◌∷◌, All, IfOk, OnOk, IsTrue, true, replicate, fold, filter, map, length};
 ghost use Rattle.std.specs.List.{flat_map};
 ghost use Rattle.cap_elf.specs.Classes.{is_bss as is_bss_of};
 ghost use Rattle.cap_layout.specs.IsPiece.{IsPiece, IsPieceOf};
@@ -117,7 +117,7 @@ fn sections(alloc: Global, rels: &[RelFile], pieces: &[Piece]) -> Result<Vec<Bod
     ensures value { IfOk result (λ bodies. bodies.items ≡ map (source_bytes rels.now) pieces.now) }
     ensures long { IfOk result (λ bodies. map length bodies.items ≡ map body_length pieces.now) }
 {
-    let mut bodies = Vec::new(alloc);
+    let mut bodies = Vec::with_capacity(alloc, pieces.len())?;
     for piece in pieces {
         bodies.push(section(alloc, rels, piece)?)?;
     }
@@ -156,9 +156,20 @@ fn section_part(alloc: Global, rels: &[RelFile], piece: &Piece) -> Result<Body, 
     let start = piece.start as usize;
     let end = start + piece.size as usize;
     let content = rels[piece.file as usize].content(piece.place);
-    let mut bytes = content[start..end].to_vec(alloc)?;
-    bytes.extend_from_slice(&zeros(alloc, (piece.padded - piece.size) as usize)?)?;
+    let mut bytes = Vec::with_capacity(alloc, piece.padded as usize)?;
+    bytes.extend_from_slice(&content[start..end])?;
+    pad(&mut bytes, (piece.padded - piece.size) as usize)?;
     Ok(Body { bytes })
+}
+
+/// Appends so many zeros.
+#[tactic(auto, using(crate::proofs::BodyRoom::padded_by))]
+fn pad(bytes: &mut Vec<u8>, count: usize) -> Result<(), NoMemory>
+    requires { length bytes.old.items + count < 2 ^ 64 }
+    ensures { OnOk result (bytes.new.items ≡ bytes.old.items ++ replicate count 0) }
+{
+    bytes.resize(bytes.len() + count, 0)?;
+    Ok(())
 }
 
 /// So many zeros.
@@ -172,7 +183,7 @@ fn zeros(alloc: Global, count: usize) -> Result<Vec<u8>, NoMemory>
 fn slots(alloc: Global, targets: &[Target]) -> Result<Vec<u8>, NoMemory>
     ensures { IfOk result (λ bytes. bytes.items ≡ flat_map slot_held targets.now) }
 {
-    let mut bytes = Vec::new(alloc);
+    let mut bytes = Vec::with_capacity(alloc, 16 * targets.len())?;
     for target in targets {
         push_held(&mut bytes, CAPABILITY, target, 0)?;
     }
@@ -216,10 +227,10 @@ fn hold_field(
 {
     let reloc = reloc_at(sources, layout, step);
     if is_field_kind(reloc.kind) {
-        let target = sources.target(step.file, reloc.symbol);
+        let target = sources.target_ref(step.file, reloc.symbol);
         let offset = field_offset(sources, layout, step, &reloc);
         held.clear();
-        push_held(held, reloc.kind, &target, reloc.addend)?;
+        push_held(held, reloc.kind, target, reloc.addend)?;
         put_in(bodies, step.piece, offset as usize, held);
     }
     Ok(())

@@ -34,17 +34,18 @@ const CODE: u64 = 1 << 63;
 
 const READ_ONLY: u64 = 1 << 62;
 
-/// The descriptions of all capabilities to addresses.
+/// The descriptions of all capabilities to addresses. There is room for `count` of them at once.
 pub(crate) fn cap_relocs(
     alloc: Global,
     sources: &Sources<'_>,
     layout: &Layout<'_>,
     wants: &[Want],
+    count: usize,
 ) -> Result<Vec<CapReloc>, NoMemory>
     requires { layout.now.rels ≡ sources.now.rels }
     ensures { IfOk result (λ listed. listed.items ≡ cap_relocs_of layout.now wants.now) }
 {
-    let mut listed = Vec::new(alloc);
+    let mut listed = Vec::with_capacity(alloc, count)?;
     for want in wants {
         if is_capability_to_address(want) {
             listed.push(cap_reloc(sources, layout, want))?;

@@ -91,13 +91,21 @@ fn fill_planned<'a>(
     ensures { IfOk result (λ lists. lists ≡ filled sources.now plan.now layout.now) }
 {
     let parts = layout.parts();
+    let sizes = plan.sizes();
     let wants = all_wants(alloc, plan, sources, layout)?;
     let numbers = SymbolNumbers::new(alloc, plan.symbols(), sources.table().len())?;
     let (names, offsets, own) = all_names(alloc, plan, sources.table())?;
     Ok(CapTable {
         plan,
-        cap_relocs: cap_relocs(alloc, sources, layout, &wants)?,
-        relas: relas(alloc, &numbers, sources, layout, &wants)?,
+        cap_relocs: cap_relocs(alloc, sources, layout, &wants, sizes.cap_relocs as usize)?,
+        relas: relas(
+            alloc,
+            &numbers,
+            sources,
+            layout,
+            &wants,
+            sizes.relas as usize,
+        )?,
         symbols: symbols(alloc, sources, layout, plan.symbols())?,
         offsets,
         dynamics: dynamics(alloc, plan, &own, &parts)?,

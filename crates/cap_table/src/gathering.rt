@@ -1,6 +1,6 @@
 //! The slots and stubs that the steps of the walk need, and the entries of the linked file for them.
 
-ghost use Rattle.std.specs.Prelude.{◌≡◌, ◌≤◌, ◌<◌, [], All, fold, length, IfOk};
+ghost use Rattle.std.specs.Prelude.{◌≡◌, ◌≤◌, ◌<◌, [], All, fold, length, IfOk, OnOk};
 ghost use Rattle.cap_elf.specs.RelObject.{file_of};
 ghost use Rattle.cap_table.specs.Checks.{IsStep, reloc_of, target_at};
 ghost use Rattle.cap_table.specs.Planned.{needs_slot as needs_slot_of, needs_stub as needs_stub_of, is_field as is_field_of, slots_of, stubs_of, count};
@@ -42,11 +42,11 @@ fn reloc<'a>(sources: &Sources<'a>, step: &Step) -> &'a Reloc
 }
 
 // What it refers to.
-fn target(sources: &Sources<'_>, step: &Step) -> Target
+fn target<'a>(sources: &'a Sources<'_>, step: &Step) -> &'a Target
     requires { IsStep sources.now step.now }
-    ensures { result ≡ target_at sources.now step.now }
+    ensures { result.now ≡ target_at sources.now step.now }
 {
-    sources.target(step.file, reloc(sources, step).symbol)
+    sources.target_ref(step.file, reloc(sources, step).symbol)
 }
 
 fn needs_stub(sources: &Sources<'_>, step: &Step) -> bool
@@ -77,16 +77,16 @@ fn needs(need: Need, sources: &Sources<'_>, step: &Step) -> bool
 fn with_needed(
     need: Need,
     sources: &Sources<'_>,
-    targets: TargetSet,
+    targets: &mut TargetSet,
     step: &Step,
-) -> Result<TargetSet, NoMemory>
+) -> Result<(), NoMemory>
     requires { IsStep sources.now step.now }
-    ensures { IfOk result (λ ts. ts ≡ with_needed_of need sources.now targets step.now) }
+    ensures { OnOk result (targets.new ≡ with_needed_of need sources.now targets.old step.now) }
 {
     if needs(need, sources, step) {
-        targets.with(target(sources, step))
+        targets.add(target(sources, step))
     } else {
-        Ok(targets)
+        Ok(())
     }
 }
 
@@ -103,7 +103,7 @@ fn needed(
 {
     let mut targets = TargetSet::new(alloc);
     for step in steps {
-        targets = with_needed(need, sources, targets, step)?;
+        with_needed(need, sources, &mut targets, step)?;
     }
     Ok(targets)
 }
@@ -148,7 +148,7 @@ fn field_has_entry(entries: Entries, sources: &Sources<'_>, step: &Step) -> bool
     ensures { result ≡ field_has_entry_of entries sources.now step.now }
 {
     let kind = reloc(sources, step).kind;
-    is_slot(kind) && has_entry(entries, kind, &target(sources, step))
+    is_slot(kind) && has_entry(entries, kind, target(sources, step))
 }
 
 /// How many slots have an entry.

@@ -1,6 +1,6 @@
 //! The names of the linked file: a string table (gABI, "String Table").
 
-ghost use Rattle.std.specs.Prelude.{◌≡◌, ◌++◌, ◌<◌, ◌≤◌, ◌∷◌, All, take, drop, length, IfOk, OnOk, option_to_list};
+ghost use Rattle.std.specs.Prelude.{◌≡◌, ◌++◌, ◌<◌, ◌≤◌, [], ◌∷◌, All, take, drop, length, IfOk, OnOk, option_to_list};
 ghost use Rattle.cap_table.specs.Planned.{symbol_names as symbol_names_of, name_bytes};
 ghost use Rattle.cap_table.specs.Lists.{name_offsets};
 ghost use Rattle.cap_table.specs.NameTable.{NamesValue, with_names, null_name, behind, names_of};
@@ -56,7 +56,8 @@ pub(crate) fn all_names(
     ensures own { IfOk result (λ n. n.2.items ≡ drop (length plan.now.symbols) (name_offsets 1 (names_of table.now plan.now))) }
     ensures long { IfOk result (λ n. length (option_to_list plan.now.soname) ≤ length n.2.items) }
 {
-    let Names { bytes, offsets } = symbol_names(alloc, table, plan.symbols())?;
+    let room = Vec::with_capacity(alloc, plan.sizes().names as usize)?;
+    let Names { bytes, offsets } = symbol_names(alloc, room, table, plan.symbols())?;
     let Names {
         bytes,
         offsets: own,
@@ -65,13 +66,19 @@ pub(crate) fn all_names(
 }
 
 /// The names of symbols, the null symbol first.
-fn symbol_names(alloc: Global, table: &Table<'_>, rows: &[u32]) -> Result<Names, NoMemory>
-    requires { All (λ row. row < length table.now) rows.now }
+fn symbol_names(
+    alloc: Global,
+    bytes: Vec<u8>,
+    table: &Table<'_>,
+    rows: &[u32],
+) -> Result<Names, NoMemory>
+    requires none { bytes.items ≡ [] }
+    requires rows { All (λ row. row < length table.now) rows.now }
     ensures { IfOk result (λ names. names ≡ with_names null_name (symbol_names_of table.now rows.now)) }
 {
     let mut names = Names {
-        bytes: Vec::new(alloc),
-        offsets: Vec::new(alloc),
+        bytes,
+        offsets: Vec::with_capacity(alloc, rows.len() + 1)?,
     };
     names.bytes.push(0)?;
     names.offsets.push(0)?;

@@ -94,7 +94,7 @@ pub(crate) fn names_size(table: &Table<'_>, rows: &[u32]) -> u64
 pub(crate) fn needed_names(alloc: Global, needed: &NameList) -> Result<Vec<Name>, NoMemory>
     ensures { IfOk result (λ names. names.items ≡ map (λ n. n.0) needed.now) }
 {
-    let mut names = Vec::new(alloc);
+    let mut names = Vec::with_capacity(alloc, needed.len())?;
     for i in 0..needed.len() {
         names.push(Name::of(alloc, needed.name(i))?)?;
     }

@@ -18,18 +18,19 @@ use std::alloc::Global;
 /// R_RISCV_RELATIVE: the addend, counted from where the file is loaded.
 const RELATIVE: u32 = 3;
 
-/// The relocations of what is left to load, and of addresses as numbers.
+/// The relocations of what is left to load, and of addresses as numbers. There is room for `count` of them at once.
 pub(crate) fn relas(
     alloc: Global,
     numbers: &SymbolNumbers<'_>,
     sources: &Sources<'_>,
     layout: &Layout<'_>,
     wants: &[Want],
+    count: usize,
 ) -> Result<Vec<DynReloc>, NoMemory>
     requires { layout.now.rels ≡ sources.now.rels }
     ensures { IfOk result (λ listed. listed.items ≡ relas_of numbers.now layout.now wants.now) }
 {
-    let mut listed = Vec::new(alloc);
+    let mut listed = Vec::with_capacity(alloc, count)?;
     for want in wants {
         if is_left(want) {
             listed.push(dyn_reloc(numbers, sources, layout, want))?;

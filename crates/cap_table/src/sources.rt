@@ -32,11 +32,11 @@ impl Model for FileTargets {
 impl FileTargets {
     ghost use Rattle.std.specs.Prelude.{slice_index_or};
 
-    fn of(&self, symbol: u32) -> Target
+    fn of(&self, symbol: u32) -> &Target
         requires { symbol < length self.now }
-        ensures { result ≡ slice_index_or self.now symbol result }
+        ensures { result.now ≡ slice_index_or self.now symbol result.now }
     {
-        self.targets[symbol as usize]
+        &self.targets[symbol as usize]
     }
 }
 
@@ -184,7 +184,7 @@ fn file_targets(
     ensures { IfOk result (λ targets. targets ≡ targets_in (record { rels = rels.now; table = table.now }) file) }
 {
     let count = rels[file as usize].symbols().len() as u32;
-    let mut targets = Vec::new(alloc);
+    let mut targets = Vec::with_capacity(alloc, count as usize)?;
     for symbol in 0..count {
         targets.push(symbol_target(rels, table, file, symbol))?;
     }
@@ -197,7 +197,7 @@ fn targets(alloc: Global, rels: &[RelFile], table: &Table<'_>) -> Result<Vec<Fil
     ensures { IfOk result (λ targets. targets.items ≡ all_targets (record { rels = rels.now; table = table.now })) }
 {
     let count = u32::try_from(rels.len()).map_err(|_| NoMemory)?;
-    let mut targets = Vec::new(alloc);
+    let mut targets = Vec::with_capacity(alloc, count as usize)?;
     for file in 0..count {
         targets.push(file_targets(alloc, rels, table, file)?)?;
     }
@@ -247,6 +247,15 @@ impl<'a> Sources<'a> {
         requires file { file < length self.now.rels }
         requires symbol { symbol < length (file_of self.now.rels file).symbols }
         ensures { result ≡ target_of self.now file symbol }
+    {
+        *self.target_ref(file, symbol)
+    }
+
+    /// The same by reference: a relocation asks for its target several times.
+    pub(crate) fn target_ref(&self, file: u32, symbol: u32) -> &Target
+        requires file { file < length self.now.rels }
+        requires symbol { symbol < length (file_of self.now.rels file).symbols }
+        ensures { result.now ≡ target_of self.now file symbol }
     {
         self.targets[file as usize].of(symbol)
     }

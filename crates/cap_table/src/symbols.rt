@@ -42,7 +42,7 @@ pub(crate) fn symbols(
     requires rows { All (λ row. row < length sources.now.table) rows.now }
     ensures { IfOk result (λ listed. listed.items ≡ symbols_of sources.now rows.now layout.now) }
 {
-    let mut listed = Vec::new(alloc);
+    let mut listed = Vec::with_capacity(alloc, rows.len() + 1)?;
     listed.push(null_symbol(alloc))?;
     for row in rows {
         listed.push(symbol(alloc, sources, layout, *row)?)?;

@@ -1,6 +1,6 @@
 //! Symbols in order, each once.
 
-ghost use Rattle.std.specs.Prelude.{◌≡◌, ◌^◌, ◌<◌, [], length, IfOk};
+ghost use Rattle.std.specs.Prelude.{◌≡◌, ◌^◌, ◌<◌, [], length, OnOk};
 ghost use Rattle.cap_syms.specs.Distinct.{with_new};
 ghost use Rattle.cap_table.specs.Targets.{same_target};
 ghost use Rattle.cap_table.specs.Lists.{index_in};
@@ -49,24 +49,21 @@ impl TargetSet {
         self.order.as_slice()
     }
 
-    /// The targets with one more, unless the same symbol is among them. There is no memory for 2^32 of them.
-    pub(crate) fn with(self, target: Target) -> Result<TargetSet, NoMemory>
-        ensures { IfOk result (λ s. s ≡ with_new same_target self target) }
+    /// Takes one more target, unless the same symbol is among them. There is no memory for 2^32 of them.
+    pub(crate) fn add(&mut self, target: &Target) -> Result<(), NoMemory>
+        ensures { OnOk result (self.new ≡ with_new same_target self.old target.now) }
     {
-        let TargetSet {
-            mut order,
-            mut keys,
-        } = self;
         let key = (target.file, target.symbol);
-        if keys.contains(&key) {
-            return Ok(TargetSet { order, keys });
+        if self.keys.contains(&key) {
+            return Ok(());
         }
-        if order.len() >= u32::MAX as usize {
+        if self.order.len() >= u32::MAX as usize {
             return Err(NoMemory);
         }
-        keys.insert(key)?;
-        order.push(target)?;
-        Ok(TargetSet { order, keys })
+        self.order.reserve(1)?;
+        self.keys.insert(key)?;
+        self.order.push_reserved(*target);
+        Ok(())
     }
 
     /// The place of a symbol among them.

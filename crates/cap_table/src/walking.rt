@@ -62,17 +62,17 @@ fn checked_piece(
     let reloc = walked.next();
     let kind = reloc.kind;
     let class = sources.rels()[file as usize].sections()[reloc.section as usize].class;
-    let target = sources.target(file, reloc.symbol);
+    let target = sources.target_ref(file, reloc.symbol);
     refuse(!is_accepted(class, kind), Check::RelocationKind, reloc.at)?;
     let piece = field_piece(pieces, file, reloc)?;
     refuse(
-        refuses_target(kind, &target),
+        refuses_target(kind, target),
         Check::RelocationKind,
         reloc.at,
     )?;
     refuse(walked.clashes(reloc), Check::RelocationSlot, reloc.at)?;
     refuse(
-        !addend_passes(kind, &target, reloc.addend),
+        !addend_passes(kind, target, reloc.addend),
         Check::Addend,
         reloc.at,
     )?;
@@ -122,7 +122,7 @@ fn record_steps(
     sources: &Sources<'_>,
     pieces: &Pieces,
     file: u32,
-    steps: Vec<Step>,
+    mut steps: Vec<Step>,
 ) -> Result<Vec<Step>, Stop>
     requires sound { All IsPiece pieces.now.all }
     requires file { file < length sources.now.rels }
@@ -130,6 +130,7 @@ fn record_steps(
 {
     let object = &sources.rels()[file as usize];
     let relocs = object.relocs();
+    steps.reserve(relocs.len())?;
     let walked = Walked::new(alloc, relocs, object.sections().len())?;
     let mut walk = Walk { walked, steps };
     for _ in 0..relocs.len() {

@@ -45,7 +45,7 @@ pub(crate) fn all_wants(
     requires { ArePlanned sources.now layout.now plan.now }
     ensures { IfOk result (λ ws. ws.items ≡ wants sources.now plan.now layout.now) }
 {
-    let mut wants = Vec::new(alloc);
+    let mut wants = Vec::with_capacity(alloc, plan.slots().len() + plan.steps().len())?;
     push_slots(&mut wants, plan, layout)?;
     push_fields(&mut wants, plan, sources, layout)?;
     Ok(wants)
@@ -99,7 +99,7 @@ fn push_field(
         wants.push(Want {
             kind: reloc.kind,
             address: address_in(layout, step.file, &reloc),
-            target: sources.target(step.file, reloc.symbol),
+            target: *sources.target_ref(step.file, reloc.symbol),
             addend: reloc.addend,
         })?;
     }

@@ -15,8 +15,8 @@ put_in-requires-clause-inside c =
     let r = c.reloc_at-reloc.result in
     let slot = sym c.is_field_kind.ensures ∙ c.if-is_field_kind.true in
     let fits : FitsSigned w64 r.addend = search rules in
-    let bytes = c.deref.ensures.value ∙ c.in_ok-push_held.ensures ∙ ap (λ (z : ℤ). c.clear.new.self.items ++ held r.kind c.target-target.result z) (to_z-of_z fits) ∙ ap (λ (xs : List ℕ). xs ++ held r.kind c.target-target.result r.addend) c.clear.ensures.items in
-    let long = ap length bytes ∙ held_long r.kind c.target-target.result r.addend slot in
+    let bytes = c.deref.ensures.value ∙ c.in_ok-push_held.ensures ∙ ap (λ (z : ℤ). c.clear.new.self.items ++ held r.kind c.target_ref-target.result.now z) (to_z-of_z fits) ∙ ap (λ (xs : List ℕ). xs ++ held r.kind c.target_ref-target.result.now r.addend) c.clear.ensures.items in
+    let long = ap length bytes ∙ held_long r.kind c.target_ref-target.result.now r.addend slot in
     let body = (long_at c.args.bodies.now.items c.args.layout.now.pieces.all c.args.step.now.piece c.requires.long c.requires.step.piece).1 in
     omega (arith, c.field_offset-offset.ensures.room, long, body)
 
@@ -29,8 +29,8 @@ returns-in_ok-push_held-clause-value c =
     let r = c.reloc_at-reloc.result in
     let slot = sym c.is_field_kind.ensures ∙ c.if-is_field_kind.true in
     let fits : FitsSigned w64 r.addend = search rules in
-    let bytes = c.deref.ensures.value ∙ c.in_ok-push_held.ensures ∙ ap (λ (z : ℤ). c.clear.new.self.items ++ held r.kind c.target-target.result z) (to_z-of_z fits) ∙ ap (λ (xs : List ℕ). xs ++ held r.kind c.target-target.result r.addend) c.clear.ensures.items in
-    let is = ap (λ (t : Target). held r.kind t r.addend) c.target-target.ensures ∙ ap (λ (q : Reloc). held q.kind (target_of named step.file q.symbol) q.addend) c.reloc_at-reloc.ensures.reloc in
+    let bytes = c.deref.ensures.value ∙ c.in_ok-push_held.ensures ∙ ap (λ (z : ℤ). c.clear.new.self.items ++ held r.kind c.target_ref-target.result.now z) (to_z-of_z fits) ∙ ap (λ (xs : List ℕ). xs ++ held r.kind c.target_ref-target.result.now r.addend) c.clear.ensures.items in
+    let is = ap (λ (t : Target). held r.kind t r.addend) c.target_ref-target.ensures ∙ ap (λ (q : Reloc). held q.kind (target_of named step.file q.symbol) q.addend) c.reloc_at-reloc.ensures.reloc in
     c.put_in.ensures
     ∙ ap (λ (at : ℕ). put_in old step.piece at c.deref.result.now) c.field_offset-offset.ensures.value
     ∙ ap (λ (with : List ℕ). put_in old step.piece (offset_in_piece named.rels pieces step) with) (bytes ∙ is)
@@ -41,7 +41,7 @@ returns-in_ok-push_held-clause-long c =
     let r = c.reloc_at-reloc.result in
     let slot = sym c.is_field_kind.ensures ∙ c.if-is_field_kind.true in
     let fits : FitsSigned w64 r.addend = search rules in
-    let bytes = c.deref.ensures.value ∙ c.in_ok-push_held.ensures ∙ ap (λ (z : ℤ). c.clear.new.self.items ++ held r.kind c.target-target.result z) (to_z-of_z fits) ∙ ap (λ (xs : List ℕ). xs ++ held r.kind c.target-target.result r.addend) c.clear.ensures.items in
-    let long = ap length bytes ∙ held_long r.kind c.target-target.result r.addend slot in
+    let bytes = c.deref.ensures.value ∙ c.in_ok-push_held.ensures ∙ ap (λ (z : ℤ). c.clear.new.self.items ++ held r.kind c.target_ref-target.result.now z) (to_z-of_z fits) ∙ ap (λ (xs : List ℕ). xs ++ held r.kind c.target_ref-target.result.now r.addend) c.clear.ensures.items in
+    let long = ap length bytes ∙ held_long r.kind c.target_ref-target.result.now r.addend slot in
     let body = (long_at c.args.bodies.now.items c.args.layout.now.pieces.all c.args.step.now.piece c.requires.long c.requires.step.piece).1 in
     put_in_long c.args.bodies.now.items c.put_in.new.bodies.items c.args.step.now.piece c.field_offset-offset.result c.deref.result.now c.put_in.ensures (omega (arith, c.field_offset-offset.ensures.room, long, body)) ∙ c.requires.long
