@@ -46,9 +46,10 @@ pub(crate) fn cap_relocs(
     ensures { IfOk result (λ listed. listed.items ≡ cap_relocs_of layout.now wants.now) }
 {
     let mut listed = Vec::with_capacity(alloc, count)?;
+    let mut guess = 0;
     for want in wants {
         if is_capability_to_address(want) {
-            listed.push(cap_reloc(sources, layout, want))?;
+            listed.push(cap_reloc(sources, layout, want, &mut guess))?;
         }
     }
     Ok(listed)
@@ -61,11 +62,11 @@ fn is_capability_to_address(want: &Want) -> bool
 }
 
 #[tactic(auto, unfolding(crate::specs::Lists::cap_reloc_of))]
-fn cap_reloc(sources: &Sources<'_>, layout: &Layout<'_>, want: &Want) -> CapReloc
+fn cap_reloc(sources: &Sources<'_>, layout: &Layout<'_>, want: &Want, guess: &mut u32) -> CapReloc
     requires { layout.now.rels ≡ sources.now.rels }
     ensures { result ≡ cap_reloc_of layout.now want.now }
 {
-    let is = describe(sources, layout, &want.target, want.addend);
+    let is = describe(sources, layout, &want.target, want.addend, guess);
     CapReloc {
         location: want.address,
         object: is.object,
@@ -86,27 +87,33 @@ fn permissions(class: Class) -> u64
     }
 }
 
-/// The object of a target, and the place of the addend in it.
+/// The object of a target, and the place of the addend in it. The guess is the piece that was found last.
 #[tactic(auto, unfolding(crate::specs::Lists::described))]
-fn describe(sources: &Sources<'_>, layout: &Layout<'_>, target: &Target, addend: i64) -> Described
+fn describe(
+    sources: &Sources<'_>,
+    layout: &Layout<'_>,
+    target: &Target,
+    addend: i64,
+    guess: &mut u32,
+) -> Described
     requires { layout.now.rels ≡ sources.now.rels }
     ensures { result ≡ described layout.now target.now addend }
 {
     if is_loose(target) {
-        describe_place(layout, target, addend)
+        describe_place(layout, target, addend, guess)
     } else {
-        describe_symbol(sources, layout, target, addend)
+        describe_symbol(sources, layout, target, addend, guess)
     }
 }
 
 /// A symbol that stands for places of its section: the piece of the place that the addend names.
-fn describe_place(layout: &Layout<'_>, target: &Target, addend: i64) -> Described
+fn describe_place(layout: &Layout<'_>, target: &Target, addend: i64, guess: &mut u32) -> Described
     ensures { result ≡ option_map_or (loose_described layout.now target.now.file (section_number target.now.as_is.place)) (offset_of target.now.as_is.value addend) nothing_described }
 {
     let pieces = layout.pieces().all();
     let section = section_of(target.as_is.place);
     match target.as_is.value.checked_add_signed(addend) {
-        Some(offset) => describe_piece(layout, pieces, target.file, section, offset),
+        Some(offset) => describe_piece(layout, pieces, target.file, section, offset, guess),
         None => NOTHING,
     }
 }
@@ -119,16 +126,20 @@ fn describe_piece(
     file: u32,
     section: u32,
     offset: u64,
+    guess: &mut u32,
 ) -> Described
     requires { pieces.now ≡ layout.now.pieces.all }
     ensures { result ≡ loose_described layout.now file section offset }
 {
-    match layout.pieces().find(file, section, offset) {
-        Some(i) => Described {
-            object: layout.address(i),
-            offset: offset - pieces[i as usize].start,
-            size: pieces[i as usize].padded,
-        },
+    match layout.pieces().find_near(*guess, file, section, offset) {
+        Some(i) => {
+            *guess = i;
+            Described {
+                object: layout.address(i),
+                offset: offset - pieces[i as usize].start,
+                size: pieces[i as usize].padded,
+            }
+        }
         None => NOTHING,
     }
 }
@@ -148,11 +159,12 @@ fn describe_symbol(
     layout: &Layout<'_>,
     target: &Target,
     addend: i64,
+    guess: &mut u32,
 ) -> Described
     requires { layout.now.rels ≡ sources.now.rels }
     ensures { result ≡ interval_described layout.now target.now.file target.now.symbol addend }
 {
-    match interval(sources, layout, target) {
+    match interval(sources, layout, target, guess) {
         Some((object, size)) => Described {
             object,
             offset: addend.unsigned_abs(),

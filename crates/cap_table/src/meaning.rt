@@ -106,34 +106,49 @@ fn is_in_inputs(sources: &Sources<'_>, target: &Target) -> bool
     }
 }
 
-/// The address and the size of a target; None where it has no address.
+/// Makes the piece of a symbol the next guess, where it has one.
+fn seek(layout: &Layout<'_>, file: u32, symbol: u32, guess: &mut u32)
+    requires file { file < length layout.now.rels }
+    requires symbol { symbol < length (file_of layout.now.rels file).symbols }
+{
+    if let Some(piece) = layout.piece_near(*guess, file, symbol) {
+        *guess = piece;
+    }
+}
+
+/// The address and the size of a target; None where it has no address. The guess is the piece that was found last.
 pub(crate) fn interval(
     sources: &Sources<'_>,
     layout: &Layout<'_>,
     target: &Target,
+    guess: &mut u32,
 ) -> Option<(u64, u64)>
     requires { layout.now.rels ≡ sources.now.rels }
     ensures { result ≡ interval_of layout.now target.now.file target.now.symbol }
 {
     if is_in_inputs(sources, target) {
-        layout.interval(target.file, target.symbol)
+        seek(layout, target.file, target.symbol, guess);
+        layout.interval_near(*guess, target.file, target.symbol)
     } else {
         None
     }
 }
 
-/// The address that a target and an addend name; None where it has no address.
+/// The address that a target and an addend name; None where it has no address. The guess is the piece that was found
+/// last.
 pub(crate) fn point(
     sources: &Sources<'_>,
     layout: &Layout<'_>,
     target: &Target,
     addend: i64,
+    guess: &mut u32,
 ) -> Option<u64>
     requires { layout.now.rels ≡ sources.now.rels }
     ensures { result ≡ point_of layout.now target.now.file target.now.symbol addend }
 {
     if is_in_inputs(sources, target) {
-        layout.point(target.file, target.symbol, addend)
+        seek(layout, target.file, target.symbol, guess);
+        layout.point_near(*guess, target.file, target.symbol, addend)
     } else {
         None
     }

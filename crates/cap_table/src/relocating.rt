@@ -31,9 +31,10 @@ pub(crate) fn relas(
     ensures { IfOk result (λ listed. listed.items ≡ relas_of numbers.now layout.now wants.now) }
 {
     let mut listed = Vec::with_capacity(alloc, count)?;
+    let mut guess = 0;
     for want in wants {
         if is_left(want) {
-            listed.push(dyn_reloc(numbers, sources, layout, want))?;
+            listed.push(dyn_reloc(numbers, sources, layout, want, &mut guess))?;
         }
     }
     Ok(listed)
@@ -52,6 +53,7 @@ fn dyn_reloc(
     sources: &Sources<'_>,
     layout: &Layout<'_>,
     want: &Want,
+    guess: &mut u32,
 ) -> DynReloc
     requires { layout.now.rels ≡ sources.now.rels }
     ensures { result ≡ dyn_reloc_of numbers.now layout.now want.now }
@@ -69,18 +71,18 @@ fn dyn_reloc(
             slot: want.address,
             kind: RELATIVE,
             symbol: 0,
-            addend: address(sources, layout, want),
+            addend: address(sources, layout, want, guess),
             at: 0,
         }
     }
 }
 
-/// The address that a want names, as an addend.
-fn address(sources: &Sources<'_>, layout: &Layout<'_>, want: &Want) -> i64
+/// The address that a want names, as an addend. The guess is the piece that was found last.
+fn address(sources: &Sources<'_>, layout: &Layout<'_>, want: &Want, guess: &mut u32) -> i64
     requires { layout.now.rels ≡ sources.now.rels }
     ensures { result ≡ cast_signed w64 (unwrap_or (point_of layout.now want.now.target.file want.now.target.symbol want.now.addend) 0) }
 {
-    point(sources, layout, &want.target, want.addend)
+    point(sources, layout, &want.target, want.addend, guess)
         .unwrap_or(0)
         .cast_signed()
 }

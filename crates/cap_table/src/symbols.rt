@@ -43,9 +43,10 @@ pub(crate) fn symbols(
     ensures { IfOk result (λ listed. listed.items ≡ symbols_of sources.now rows.now layout.now) }
 {
     let mut listed = Vec::with_capacity(alloc, rows.len() + 1)?;
+    let mut guess = 0;
     listed.push(null_symbol(alloc))?;
     for row in rows {
-        listed.push(symbol(alloc, sources, layout, *row)?)?;
+        listed.push(symbol(alloc, sources, layout, *row, &mut guess)?)?;
     }
     Ok(listed)
 }
@@ -64,12 +65,13 @@ fn null_symbol(alloc: Global) -> DynSymbol
     }
 }
 
-/// The symbol of a row.
+/// The symbol of a row. The guess is the piece that was found last.
 fn symbol(
     alloc: Global,
     sources: &Sources<'_>,
     layout: &Layout<'_>,
     row: u32,
+    guess: &mut u32,
 ) -> Result<DynSymbol, NoMemory>
     requires rels { layout.now.rels ≡ sources.now.rels }
     requires row { row < length sources.now.table }
@@ -79,7 +81,8 @@ fn symbol(
     let entry = table.entry(row);
     let name = Name::of(alloc, table.name(row))?;
     if is_present(&entry.shape) {
-        Ok(present(sources, layout, name, &entry, &sources.row(row)))
+        let target = sources.row(row);
+        Ok(present(sources, layout, name, &entry, &target, guess))
     } else {
         Ok(absent(name, &entry))
     }
@@ -99,11 +102,12 @@ fn present(
     name: Name,
     entry: &Entry,
     target: &Target,
+    guess: &mut u32,
 ) -> DynSymbol
     requires rels { layout.now.rels ≡ sources.now.rels }
     ensures { (bound : Bound) → result ≡ present_symbol layout.now (record { name = name; entry = entry.now; bound = bound }) target.now }
 {
-    let (at, len) = interval(sources, layout, target).unwrap_or((0, 0));
+    let (at, len) = interval(sources, layout, target, guess).unwrap_or((0, 0));
     let absolute = is_absolute(target.as_is.place);
     DynSymbol {
         name,

@@ -22,15 +22,15 @@ use cap_elf::Reloc;
 use cap_layout::Pieces;
 use std::alloc::Global;
 
-// The piece that holds the field of a relocation.
-fn field_piece(pieces: &Pieces, file: u32, reloc: &Reloc) -> Result<u32, Fault>
+// The piece that holds the field of a relocation. The guess is the piece of the field before.
+fn field_piece(pieces: &Pieces, guess: u32, file: u32, reloc: &Reloc) -> Result<u32, Fault>
     requires sound { All IsPiece pieces.now.all }
     requires kind { is_passed_over_kind reloc.now.kind ≡ false }
     ensures value { result ≡ ok_or (field_piece_of pieces.now.all file reloc.now.section reloc.now.offset (width_of_kind reloc.now.kind)) (fault RelocationOffset reloc.now.at) }
     ensures end { IfOk result (λ _. reloc.now.offset + width_of_kind reloc.now.kind ≤ 2 ^ 62) }
 {
     let width = field_width(reloc.kind);
-    match pieces.holding(file, reloc.section, reloc.offset, width) {
+    match pieces.holding_near(guess, file, reloc.section, reloc.offset, width) {
         Some(piece) => Ok(piece),
         None => Err(Fault {
             check: Check::RelocationOffset,
@@ -44,6 +44,7 @@ fn field_piece(pieces: &Pieces, file: u32, reloc: &Reloc) -> Result<u32, Fault>
 fn checked_piece(
     sources: &Sources<'_>,
     pieces: &Pieces,
+    guess: u32,
     file: u32,
     walked: &Walked<'_>,
 ) -> Result<u32, Fault>
@@ -64,7 +65,7 @@ fn checked_piece(
     let class = sources.rels()[file as usize].sections()[reloc.section as usize].class;
     let target = sources.target_ref(file, reloc.symbol);
     refuse(!is_accepted(class, kind), Check::RelocationKind, reloc.at)?;
-    let piece = field_piece(pieces, file, reloc)?;
+    let piece = field_piece(pieces, guess, file, reloc)?;
     refuse(
         refuses_target(kind, target),
         Check::RelocationKind,
@@ -79,11 +80,12 @@ fn checked_piece(
     Ok(piece)
 }
 
-/// The steps of one input.
+/// The steps of one input, and the piece of the last of them.
 #[derive(Drop)]
 struct Walk<'a> {
     walked: Walked<'a>,
     steps: Vec<Step>,
+    piece: u32,
 }
 
 /// Walks the next relocation.
@@ -103,16 +105,28 @@ fn record_step<'a>(
     ensures value { Gives (λ w. w.steps.items) result (record_step_of sources.now pieces.now.all file walk.entry.steps.items (walk.entry.walked.done, next_of walk.entry.walked)) }
     ensures walked { IfOk result (λ w. w.walked ≡ record walk.entry.walked { done = walk.entry.walked.done + 1 }) }
 {
-    let Walk { walked, mut steps } = walk;
+    let Walk {
+        walked,
+        mut steps,
+        piece,
+    } = walk;
     if is_passed_over(walked.next().kind) {
         let walked = walked.skip();
-        return Ok(Walk { walked, steps });
+        return Ok(Walk {
+            walked,
+            steps,
+            piece,
+        });
     }
-    let piece = checked_piece(sources, pieces, file, &walked)?;
+    let piece = checked_piece(sources, pieces, piece, file, &walked)?;
     let index = walked.index();
     let walked = walked.add()?;
     steps.push(Step { file, index, piece })?;
-    Ok(Walk { walked, steps })
+    Ok(Walk {
+        walked,
+        steps,
+        piece,
+    })
 }
 
 // The steps of one input.
@@ -132,7 +146,11 @@ fn record_steps(
     let relocs = object.relocs();
     steps.reserve(relocs.len())?;
     let walked = Walked::new(alloc, relocs, object.sections().len())?;
-    let mut walk = Walk { walked, steps };
+    let mut walk = Walk {
+        walked,
+        steps,
+        piece: 0,
+    };
     for _ in 0..relocs.len() {
         walk = record_step(sources, pieces, file, walk)?;
     }

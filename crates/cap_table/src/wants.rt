@@ -98,7 +98,7 @@ fn push_field(
     if is_field_kind(reloc.kind) {
         wants.push(Want {
             kind: reloc.kind,
-            address: address_in(layout, step.file, &reloc),
+            address: address_in(layout, step, &reloc),
             target: *sources.target_ref(step.file, reloc.symbol),
             addend: reloc.addend,
         })?;
@@ -106,11 +106,13 @@ fn push_field(
     Ok(())
 }
 
-/// The address of the field of a relocation of a file.
-fn address_in(layout: &Layout<'_>, file: u32, reloc: &Reloc) -> u64
-    ensures { result ≡ unwrap_or (place_address layout.now file reloc.now.section reloc.now.offset) 0 }
+/// The address of the field of a step's relocation.
+fn address_in(layout: &Layout<'_>, step: &Step, reloc: &Reloc) -> u64
+    ensures { result ≡ unwrap_or (place_address layout.now step.now.file reloc.now.section reloc.now.offset) 0 }
 {
-    layout.place(file, reloc.section, reloc.offset).unwrap_or(0)
+    layout
+        .place_near(step.piece, step.file, reloc.section, reloc.offset)
+        .unwrap_or(0)
 }
 
 /// The relocation of a step.

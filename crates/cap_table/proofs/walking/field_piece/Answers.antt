@@ -9,5 +9,5 @@ returns-in-Some-clause-end c =
     let reloc = c.args.reloc.now in
     let pieces = c.args.pieces.now.all in
     let held : field_piece pieces c.args.file reloc.section reloc.offset (width_of reloc.kind) ≡ Some c.in-Some.piece =
-    ap (field_piece pieces c.args.file reloc.section reloc.offset) (sym c.field_width-width.ensures.width) ∙ sym c.holding.ensures ∙ c.in-Some.is in
+    ap (field_piece pieces c.args.file reloc.section reloc.offset) (sym c.field_width-width.ensures.width) ∙ sym c.holding_near.ensures ∙ c.in-Some.is in
     field_end pieces c.args.file reloc.section reloc.offset (width_of reloc.kind) c.in-Some.piece c.requires.sound held
