@@ -13,4 +13,3 @@ pub mod Counts
 pub mod MemoryBytes
 pub mod Sizes
 pub mod ImageOf
-pub mod TwoMemories

@@ -1,8 +1,8 @@
 -- The bytes of an image, part by part.
-use Rattle.std.proofs.Common.{◌≡◌, ℕ, suc, ◌+◌, ◌<◌, ◌≤◌, zero, ◌^◌, Bool, false, List, [], ◌∷◌, ◌++◌, length, map, take, get_or, refl, sym, ap, ◌∙◌, arith, append_assoc, append-nil, subst}
+use Rattle.std.proofs.Common.{◌≡◌, ℕ, suc, ◌+◌, ◌<◌, ◌≤◌, zero, ◌^◌, Bool, false, List, [], ◌∷◌, ◌++◌, length, map, take, get_or, refl, sym, ap, ◌∙◌, arith, append_assoc, append-nil}
 use Rattle.std.specs.Prelude.{All, flat_map}
 use Rattle.std.specs.List.{zip}
-use Rattle.std.proofs.lemmas.List.{length-map, take_all, get_or-map}
+use Rattle.std.proofs.lemmas.List.{length-map, take_all}
 use Rattle.std.proofs.lemmas.List.Elements.{All-map}
 use Rattle.std.proofs.lemmas.Slice.Zip.{get_or-zip, length-zip, seconds-zip}
 use Rattle.cap_mem.specs.Tagged.{TaggedMemory, TaggedWord}
@@ -50,24 +50,6 @@ next_has symbols f fs h = h 0 f (omega arith)
 pub rest_have : (symbols : List (List (List ℕ × Bool))) (f : FoundWord) (fs : List FoundWord) → HaveSymbols symbols (f ∷ fs) → HaveSymbols symbols fs
 unfolding HaveSymbols
 rest_have symbols f fs h = λ k d l. h (suc k) d (omega (arith, l))
-
-pub have_none : (symbols : List (List (List ℕ × Bool))) → HaveSymbols symbols []
-unfolding HaveSymbols
-have_none symbols = λ k d l. absurd (omega (arith, l))
-
-pub have_more : (symbols : List (List (List ℕ × Bool))) (f : FoundWord) (fs : List FoundWord) → HasItsSymbol symbols f → HaveSymbols symbols fs → HaveSymbols symbols (f ∷ fs)
-unfolding HaveSymbols
-have_more symbols f fs h rest = λ k d l. at k d l
-  where
-    at : (k : ℕ) (d : FoundWord) → k < length (f ∷ fs) → HasItsSymbol symbols (get_or (f ∷ fs) k d)
-    at zero d l = h
-    at (suc k) d l = rest k d (omega (arith, l))
-
--- words of which a walk finds that they have symbols have them
-pub words_have : (symbols : List (List (List ℕ × Bool))) (ws : List TaggedWord) → HaveSymbols symbols (founds_of ws) → All (λ w. HasSymbol symbols w.cap.owner w.note) ws
-unfolding HaveSymbols
-words_have symbols ws h = λ k d l.
-    subst (HasItsSymbol symbols) (get_or-map found_of ws k d (found_of d) l) (h k (found_of d) (omega (arith, l, length-map ws found_of)))
 
 -- no memory, and one more
 pub records_none : (text : List ℕ) (names : List (List ℕ × Bool)) (memories : List TaggedMemory) → text ++ records_below names memories 0 ≡ text

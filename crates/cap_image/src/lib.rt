@@ -37,8 +37,3 @@ pub use laws::image_laws;
 pub use reporting::report;
 pub use words::WordNote;
 pub use writing::write;
-
-#[cfg(test)]
-mod tests;
-#[cfg(test)]
-mod writing_tests;
