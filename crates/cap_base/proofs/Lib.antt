@@ -3,3 +3,4 @@ pub mod Lookups
 pub mod Walk
 pub mod Checks
 pub mod WrittenFiles
+pub mod NameEnds
