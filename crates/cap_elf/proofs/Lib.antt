@@ -1,3 +1,4 @@
+pub mod ByName
 pub mod Walk
 pub mod RelWalk
 pub mod Passing

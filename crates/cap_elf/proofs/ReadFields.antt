@@ -18,7 +18,7 @@ use Rattle.cap_elf.specs.declared.records.Reloc.{Reloc}
 use Rattle.cap_elf.specs.declared.records.Section.{Section}
 use Rattle.cap_elf.specs.declared.rel_relocs.Target.{Target}
 use Rattle.cap_elf.specs.declared.sections.SectionHeader.{SectionHeader}
-use Rattle.cap_elf.specs.declared.symbols.NamedSymbol.{NamedSymbol}
+use Rattle.cap_elf.specs.Named.{NamedSymbol}
 use Rattle.cap_elf.specs.Header.{header_of, lacks_flags}
 use Rattle.cap_elf.specs.Records.{table, symbol_entry_at}
 use Rattle.cap_elf.specs.declared.decode.Table.{Table}

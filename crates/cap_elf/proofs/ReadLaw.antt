@@ -10,7 +10,7 @@ use Rattle.cap_base.specs.declared.check.Check.TheVariants.{NoSegment, DynamicHe
 use Rattle.cap_base.specs.Steps.{fault}
 use Rattle.cap_elf.specs.declared.records.Symbol.{Symbol}
 use Rattle.cap_elf.specs.declared.decode.Table.{Table}
-use Rattle.cap_elf.specs.declared.symbols.NamedSymbol.{NamedSymbol}
+use Rattle.cap_elf.specs.Named.{NamedSymbol}
 use Rattle.cap_elf.specs.Ends.{end_of, highest_end, has_memory, IsInFile}
 use Rattle.cap_elf.specs.Header.{header_of}
 use Rattle.cap_elf.specs.Records.{table, program_header_at, symbol_entry_at, reloc_at, cap_reloc_at}

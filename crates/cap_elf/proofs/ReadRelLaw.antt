@@ -6,7 +6,7 @@ use Rattle.std.proofs.lemmas.List.{length-map, length-drop, length-take-le, get_
 use Rattle.std.proofs.lemmas.List.Elements.{All-map, All-weaker}
 use Rattle.cap_elf.specs.declared.records.Section.{Section}
 use Rattle.cap_elf.specs.declared.records.Symbol.{Symbol}
-use Rattle.cap_elf.specs.declared.symbols.NamedSymbol.{NamedSymbol}
+use Rattle.cap_elf.specs.Named.{NamedSymbol}
 use Rattle.cap_elf.specs.Classes.{is_kept, is_bss}
 use Rattle.cap_elf.specs.Header.{header_of}
 use Rattle.cap_elf.specs.Records.{table, null_symbol}

@@ -13,7 +13,7 @@ use Rattle.cap_base.specs.Text.{is_plain}
 use Rattle.cap_base.specs.Steps.{fault, steps}
 use Rattle.cap_elf.specs.declared.records.Symbol.{Symbol}
 use Rattle.cap_elf.specs.declared.decode.SymbolEntry.{SymbolEntry}
-use Rattle.cap_elf.specs.declared.symbols.NamedSymbol.{NamedSymbol}
+use Rattle.cap_elf.specs.Named.{NamedSymbol}
 use Rattle.cap_elf.specs.Names.{name_of}
 use Rattle.cap_elf.specs.Exported.{is_exported, has_exported}
 use Rattle.cap_elf.specs.Symbols.{is_reserved, checked_name, symbol_step, null_named, named_of}

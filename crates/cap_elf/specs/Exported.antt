@@ -5,7 +5,7 @@ use Rattle.std.specs.Str.{bytes_eq}
 use Rattle.cap_elf.specs.declared.records.Place.{Place}
 use Rattle.cap_elf.specs.declared.records.Place.TheVariants.{Undefined, Absolute, Common, Section}
 use Rattle.cap_elf.specs.declared.records.Symbol.{Symbol}
-use Rattle.cap_elf.specs.declared.symbols.NamedSymbol.{NamedSymbol}
+use Rattle.cap_elf.specs.Named.{NamedSymbol}
 
 -- in a section, or absolute
 abbrev pub is_defined : Place → Bool

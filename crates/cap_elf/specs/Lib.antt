@@ -8,6 +8,7 @@ pub mod Dynamic
 pub mod Tables
 pub mod Names
 pub mod NameSet
+pub mod Named
 pub mod Exported
 pub mod Symbols
 pub mod Relocs

@@ -14,7 +14,7 @@ use Rattle.cap_elf.specs.declared.records.Symbol.{Symbol}
 use Rattle.cap_elf.specs.declared.rel_symbols.Symtab.{Symtab}
 use Rattle.cap_elf.specs.declared.section_types.TheConstants.{SYMTAB}
 use Rattle.cap_elf.specs.declared.sections.SectionHeader.{SectionHeader}
-use Rattle.cap_elf.specs.declared.symbols.NamedSymbol.{NamedSymbol}
+use Rattle.cap_elf.specs.Named.{NamedSymbol}
 use Rattle.cap_elf.specs.Classes.{is_kept, is_code, is_array}
 use Rattle.cap_elf.specs.Records.{symbol_entry_at}
 use Rattle.cap_elf.specs.RelObject.{no_section}

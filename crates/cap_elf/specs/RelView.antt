@@ -23,7 +23,7 @@ pub record RelView : Type 0 where
 
 -- the records that were read, as contracts see them
 abbrev pub rel_records_view : RelRecords → RelView
-rel_records_view r = record { flags = r.flags; sections = r.sections.items; symbols = r.symbols.items; names = r.names.items; relocs = r.relocs.items }
+rel_records_view r = record { flags = r.flags; sections = r.sections.items; symbols = r.symbols.items; names = r.names; relocs = r.relocs.items }
 
 -- the stages in the order of the checks
 unfoldable pub rel_records_of : List ℕ → Result RelView Fault

@@ -6,7 +6,7 @@ use Rattle.cap_elf.specs.declared.records.Place.{Place}
 use Rattle.cap_elf.specs.declared.records.Place.TheVariants.{Undefined, Absolute, Common, Section}
 use Rattle.cap_elf.specs.declared.decode.SymbolEntry.{SymbolEntry}
 use Rattle.cap_elf.specs.declared.decode.Table.{Table}
-use Rattle.cap_elf.specs.declared.symbols.NamedSymbol.{NamedSymbol}
+use Rattle.cap_elf.specs.Named.{NamedSymbol}
 use Rattle.cap_elf.specs.Records.{table, symbol_entry_at, null_symbol}
 use Rattle.cap_base.specs.Text.{is_plain}
 use Rattle.cap_elf.specs.Names.{name_of}

@@ -114,7 +114,7 @@ impl DynFile {
         requires { symbol < length self.now.records.symbols }
         ensures { result.now ≡ slice_index_or self.now.records.names symbol [] }
     {
-        self.records.names[symbol as usize].bytes()
+        self.records.names.get(symbol as usize)
     }
 
     /// The relocations of DT_RELA, and then those of DT_JMPREL.

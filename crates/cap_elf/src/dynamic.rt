@@ -16,7 +16,7 @@ fn entries(alloc: Global, bytes: &[u8], place: Table) -> Result<Vec<DynEntry>, A
     requires { place.at + 16 * place.count ≤ length bytes.now }
     ensures { IfOk result (λ v. v.items ≡ table (dyn_entry_at bytes.now) place.at 16 place.count) }
 {
-    let mut entries = Vec::new(alloc);
+    let mut entries = Vec::with_capacity(alloc, place.count)?;
     for i in 0..place.count {
         entries.push(dyn_entry(bytes, place.at + 16 * i))?;
     }

@@ -23,6 +23,7 @@ mod dyn_file;
 mod dynamic;
 mod header;
 mod laws;
+mod named;
 mod names;
 mod program;
 mod reading;
@@ -46,10 +47,4 @@ pub use laws::read_laws;
 pub use program::Marks;
 pub use records::{Arrays, CapReloc, Class, DynReloc, Place, Reloc, Section, Segment, Symbol};
 pub use rel_file::{RelFile, read_rel};
-pub use symbols::NamedSymbol;
 pub use tables::{HashPlace, Lists};
-
-#[cfg(test)]
-mod rel_tests;
-#[cfg(test)]
-mod tests;

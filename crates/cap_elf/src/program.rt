@@ -49,7 +49,7 @@ pub(crate) fn headers(
     requires { place.at + 56 * place.count ≤ length bytes.now }
     ensures { IfOk result (λ v. v.items ≡ table (program_header_at bytes.now) place.at 56 place.count) }
 {
-    let mut headers = Vec::new(alloc);
+    let mut headers = Vec::with_capacity(alloc, place.count)?;
     for i in 0..place.count {
         headers.push(program_header(bytes, place.at + 56 * i))?;
     }

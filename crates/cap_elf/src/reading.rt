@@ -1,6 +1,6 @@
 //! Reading a shared object, stage by stage.
 
-ghost use Rattle.std.specs.Prelude.{◌≡◌, IfOk, map};
+ghost use Rattle.std.specs.Prelude.{◌≡◌};
 ghost use Rattle.cap_base.specs.Steps.{Gives};
 ghost use Rattle.cap_elf.specs.DynView.{dyn_view, span_of, align_of};
 ghost use Rattle.cap_elf.specs.RecordsView.{records_view};
@@ -12,9 +12,9 @@ use crate::records::{Arrays, CapReloc, DynReloc, Segment, Symbol};
 use crate::relocs::{read_cap_relocs, read_relocs, read_words, symbols_fit};
 use crate::segments::Loads;
 use crate::stages::{read_mapped, read_tables};
-use crate::symbols::{NamedSymbol, read_symbols};
-use cap_base::{Name, Stop};
-use std::alloc::{AllocError, Global};
+use crate::symbols::read_symbols;
+use cap_base::{Name, Names, Stop};
+use std::alloc::Global;
 
 /// What the bytes of a shared object tell.
 #[derive(Drop)]
@@ -23,7 +23,7 @@ pub(crate) struct Records {
     pub(crate) segments: Vec<Segment>,
     pub(crate) relro: Option<(u64, u64)>,
     pub(crate) symbols: Vec<Symbol>,
-    pub(crate) names: Vec<Name>,
+    pub(crate) names: Names,
     pub(crate) relocs: Vec<DynReloc>,
     pub(crate) cap_relocs: Vec<CapReloc>,
     pub(crate) hash_words: Vec<u32>,
@@ -34,18 +34,6 @@ pub(crate) struct Records {
     pub(crate) symbolic: bool,
     pub(crate) span: u64,
     pub(crate) align: u64,
-}
-
-pub(crate) fn symbols_of(alloc: Global, named: &[NamedSymbol]) -> Result<Vec<Symbol>, AllocError>
-    ensures { IfOk result (λ v. v.items ≡ map (λ n. n.symbol) named.now) }
-{
-    named.iter().map(|named| named.symbol).collect(alloc)
-}
-
-pub(crate) fn names_of(alloc: Global, named: Vec<NamedSymbol>) -> Result<Vec<Name>, AllocError>
-    ensures { IfOk result (λ v. v.items ≡ map (λ n. n.name) named.items) }
-{
-    named.into_iter().map(|named| named.name).collect(alloc)
 }
 
 fn span(loads: &Loads) -> u64
@@ -73,8 +61,7 @@ pub(crate) fn read_records(alloc: Global, bytes: &[u8]) -> Result<Records, Stop>
     let file_names = read_names(alloc, tables.strings, &tables.listed)?;
     let arrays = read_arrays(&mapped.loads, &tables.used, mapped.dynamic.at as u64)?;
     let named = read_symbols(alloc, bytes, tables.strings, tables.symbols)?;
-    let symbols = symbols_of(alloc, &named)?;
-    let names = names_of(alloc, named)?;
+    let (symbols, names) = named.apart();
     let relocs = read_relocs(alloc, bytes, &tables.lists)?;
     symbols_fit(tables.symbols.count, &relocs)?;
     let cap_relocs = read_cap_relocs(alloc, bytes, tables.lists.cap_relocs)?;

@@ -7,7 +7,7 @@ ghost use Rattle.cap_elf.specs.IsRelRead.{IsRelRead};
 
 use crate::records::{Reloc, Section, Symbol};
 use crate::rel_reading::{RelRecords, read_rel_records};
-use cap_base::{Name, Refusal};
+use cap_base::{Names, Refusal};
 use std::alloc::Global;
 use std::marker::Model;
 
@@ -19,7 +19,7 @@ pub struct RelFile {
     flags: u32,
     sections: Vec<Section>,
     symbols: Vec<Symbol>,
-    names: Vec<Name>,
+    names: Names,
     relocs: Vec<Reloc>,
     bytes: Vec<u8>,
 }
@@ -32,9 +32,9 @@ impl Model for RelFile {
     ghost use Rattle.std.specs.Prelude.{length};
     ghost use Rattle.cap_elf.specs.IsRelRead.{IsRelRead, AreInside};
 
-    ghost view = { λ f. rel_object f.number f.flags f.sections.items f.symbols.items f.names.items f.relocs.items f.bytes.items };
+    ghost view = { λ f. rel_object f.number f.flags f.sections.items f.symbols.items f.names f.relocs.items f.bytes.items };
 
-    ghost invariant = { λ f. IsRelRead (rel_object f.number f.flags f.sections.items f.symbols.items f.names.items f.relocs.items f.bytes.items) × AreInside (length f.bytes.items) f.sections.items };
+    ghost invariant = { λ f. IsRelRead (rel_object f.number f.flags f.sections.items f.symbols.items f.names f.relocs.items f.bytes.items) × AreInside (length f.bytes.items) f.sections.items };
 }
 
 /// Reads a relocatable object (ET_REL) of the pure-capability RISC-V profile, whose file is given this number. The
@@ -143,7 +143,7 @@ impl RelFile {
         ensures name { result.now ≡ slice_index_or self.now.names symbol [] }
         ensures sound { IsRelRead self.now }
     {
-        self.names[symbol as usize].bytes()
+        self.names.get(symbol as usize)
     }
 
     /// The bytes of a section that is kept and has bytes in the file.

@@ -5,12 +5,11 @@ ghost use Rattle.cap_base.specs.Steps.{Gives};
 ghost use Rattle.cap_elf.specs.RelView.{rel_records_of, rel_records_view};
 
 use crate::header::header;
-use crate::reading::{names_of, symbols_of};
 use crate::records::{Reloc, Section, Symbol};
 use crate::rel_relocs::read_rel_relocs;
 use crate::rel_symbols::{read_rel_symbols, read_symtab};
 use crate::sections::{read_sections, section_headers, section_names, section_table};
-use cap_base::{Name, Stop};
+use cap_base::{Names, Stop};
 use std::alloc::Global;
 
 /// What the bytes of a relocatable object tell.
@@ -19,7 +18,7 @@ pub(crate) struct RelRecords {
     pub(crate) flags: u32,
     pub(crate) sections: Vec<Section>,
     pub(crate) symbols: Vec<Symbol>,
-    pub(crate) names: Vec<Name>,
+    pub(crate) names: Names,
     pub(crate) relocs: Vec<Reloc>,
 }
 
@@ -36,8 +35,7 @@ pub(crate) fn read_rel_records(alloc: Global, bytes: &[u8]) -> Result<RelRecords
     let sections = read_sections(alloc, bytes.len() as u64, names, &headers)?;
     let symtab = read_symtab(bytes, &headers)?;
     let named = read_rel_symbols(alloc, bytes, &sections, &symtab)?;
-    let symbols = symbols_of(alloc, &named)?;
-    let names = names_of(alloc, named)?;
+    let (symbols, names) = named.apart();
     let relocs = read_rel_relocs(alloc, bytes, &headers, &sections, symtab.place.count)?;
     Ok(RelRecords {
         flags,

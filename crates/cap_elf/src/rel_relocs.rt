@@ -39,7 +39,7 @@ fn targets(alloc: Global, sections: &[Section]) -> Result<Vec<Target>, AllocErro
     requires { length sections.now < 2 ^ 16 }
     ensures { IfOk result (λ v. v.items ≡ targets_at sections.now) }
 {
-    let mut targets = Vec::new(alloc);
+    let mut targets = Vec::with_capacity(alloc, sections.len())?;
     for i in 0..sections.len() {
         targets.push(untouched(sections, i))?;
     }
@@ -134,6 +134,7 @@ fn add_table(
     requires { place.at + 24 * place.count ≤ length bytes.now }
     ensures { OnOk result (relocs.new.items ≡ relocs.old.items ++ table (rel_reloc_at bytes.now section) place.at 24 place.count) }
 {
+    relocs.reserve(place.count)?;
     for i in 0..place.count {
         relocs.push(rel_reloc(bytes, section, place.at + 24 * i))?;
     }

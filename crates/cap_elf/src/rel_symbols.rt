@@ -1,16 +1,16 @@
 //! The symbols of a relocatable object.
 
-ghost use Rattle.std.specs.Prelude.{◌≡◌, ◌≤◌, ◌+◌, ◌*◌, ◌∷◌, [], length, IfOk, Ok as ok};
+ghost use Rattle.std.specs.Prelude.{◌≡◌, ◌≤◌, ◌+◌, ◌*◌, length, IfOk};
 ghost use Rattle.cap_base.specs.Steps.{Answers, Gives};
-ghost use Rattle.cap_elf.specs.Symbols.{null_named};
 ghost use Rattle.cap_elf.specs.RelSymbols.{symtab_view, no_symtab, symtab_step, symtab_in, symtab_of, with_common as with_common_of, rel_symbol_at, rel_symbols_at, is_past as is_past_of, is_misplaced as is_misplaced_of, common_fails as common_fails_of, common_passes, section_passes, place_passes, rel_symbol_step, rel_named_of, rel_named_in};
 
-use crate::decode::{SymbolEntry, Table, null_symbol, symbol_entry};
+use crate::decode::{SymbolEntry, Table, symbol_entry};
+use crate::named::{Named, null_alone};
 use crate::records::{Place, Section, Symbol};
 use crate::section_types::SYMTAB;
 use crate::sections::{SectionHeader, header_at, records_in, strings_in};
-use crate::symbols::{NamedSymbol, checked_name};
-use cap_base::{Check, Fault, Name, Stop, is_inside, refuse};
+use crate::symbols::checked_name;
+use cap_base::{Check, Fault, Stop, is_inside, refuse};
 use std::alloc::{AllocError, Global};
 
 /// Where the symbols stand, and the strings of their names.
@@ -120,7 +120,7 @@ fn rel_symbols(alloc: Global, bytes: &[u8], place: Table) -> Result<Vec<SymbolEn
     requires { place.at + 24 * place.count ≤ length bytes.now }
     ensures { IfOk result (λ v. v.items ≡ rel_symbols_at bytes.now place) }
 {
-    let mut entries = Vec::new(alloc);
+    let mut entries = Vec::with_capacity(alloc, place.count)?;
     for i in 1..place.count {
         entries.push(rel_symbol(bytes, place.at + 24 * i))?;
     }
@@ -189,34 +189,18 @@ fn check_place(sections: &[Section], symbol: &Symbol) -> Result<(), Fault>
 
 #[tactic(auto, unfolding(crate::specs::RelSymbols::rel_symbol_step))]
 fn add_symbol(
-    alloc: Global,
-    named: &mut Vec<NamedSymbol>,
+    named: &mut Named,
     strings: &[u8],
     sections: &[Section],
     entry: &SymbolEntry,
 ) -> Result<(), Stop>
-    ensures { Gives (λ _. named.new.items) result (rel_symbol_step strings.now sections.now named.old.items entry.now) }
+    ensures { Gives (λ _. named.new) result (rel_symbol_step strings.now sections.now named.old entry.now) }
 {
     let symbol = entry.symbol;
     let name = checked_name(strings, entry)?;
     check_place(sections, &symbol)?;
-    named.push(NamedSymbol {
-        symbol,
-        name: Name::of(alloc, name)?,
-    })?;
+    named.push(symbol, name)?;
     Ok(())
-}
-
-/// The symbol of index 0 alone.
-fn null_alone(alloc: Global, at: u64) -> Result<Vec<NamedSymbol>, Stop>
-    ensures { Gives (λ v. v.items) result (ok (null_named at ∷ [])) }
-{
-    let mut named = Vec::new(alloc);
-    named.push(NamedSymbol {
-        symbol: null_symbol(at),
-        name: Name::empty(alloc),
-    })?;
-    Ok(named)
 }
 
 #[tactic(auto, using(cap_base::proofs::Walk::steps_more, cap_base::proofs::Walk::steps_stop))]
@@ -226,12 +210,12 @@ fn named_symbols(
     sections: &[Section],
     at: u64,
     entries: &[SymbolEntry],
-) -> Result<Vec<NamedSymbol>, Stop>
-    ensures { Gives (λ v. v.items) result (rel_named_of strings.now sections.now at entries.now) }
+) -> Result<Named, Stop>
+    ensures { Gives (λ n. n) result (rel_named_of strings.now sections.now at entries.now) }
 {
-    let mut named = null_alone(alloc, at)?;
+    let mut named = null_alone(alloc, at, entries.len() + 1)?;
     for entry in entries {
-        add_symbol(alloc, &mut named, strings, sections, entry)?;
+        add_symbol(&mut named, strings, sections, entry)?;
     }
     Ok(named)
 }
@@ -242,9 +226,9 @@ pub(crate) fn read_rel_symbols(
     bytes: &[u8],
     sections: &[Section],
     symtab: &Symtab,
-) -> Result<Vec<NamedSymbol>, Stop>
+) -> Result<Named, Stop>
     requires { symtab.now.place.at + 24 * symtab.now.place.count ≤ length bytes.now }
-    ensures { Gives (λ v. v.items) result (rel_named_in bytes.now sections.now (symtab_view symtab.now)) }
+    ensures { Gives (λ n. n) result (rel_named_in bytes.now sections.now (symtab_view symtab.now)) }
 {
     let entries = rel_symbols(alloc, bytes, symtab.place)?;
     let at = symtab.place.at as u64;

@@ -32,7 +32,8 @@ pub(crate) fn read_relocs(
     requires jumps { lists.now.jumps.at + 24 * lists.now.jumps.count ≤ length bytes.now }
     ensures { IfOk result (λ v. v.items ≡ relocs_in bytes.now lists.now) }
 {
-    let mut relocs = Vec::new(alloc);
+    let count = lists.relocs.count + lists.jumps.count;
+    let mut relocs = Vec::with_capacity(alloc, count)?;
     add_relocs(&mut relocs, bytes, lists.relocs)?;
     add_relocs(&mut relocs, bytes, lists.jumps)?;
     Ok(relocs)
@@ -47,7 +48,7 @@ pub(crate) fn read_cap_relocs(
     requires { place.at + 40 * place.count ≤ length bytes.now }
     ensures { IfOk result (λ v. v.items ≡ table (cap_reloc_at bytes.now) place.at 40 place.count) }
 {
-    let mut relocs = Vec::new(alloc);
+    let mut relocs = Vec::with_capacity(alloc, place.count)?;
     for i in 0..place.count {
         relocs.push(cap_reloc(bytes, place.at + 40 * i))?;
     }
@@ -59,7 +60,7 @@ pub(crate) fn read_words(alloc: Global, bytes: &[u8], place: Table) -> Result<Ve
     requires { place.at + 4 * place.count ≤ length bytes.now }
     ensures { IfOk result (λ v. v.items ≡ table (number_at 4 bytes.now) place.at 4 place.count) }
 {
-    let mut words = Vec::new(alloc);
+    let mut words = Vec::with_capacity(alloc, place.count)?;
     for i in 0..place.count {
         words.push(u32_in(bytes, place.at + 4 * i))?;
     }

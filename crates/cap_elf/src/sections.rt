@@ -84,7 +84,7 @@ pub(crate) fn section_headers(
     ensures items { IfOk result (λ v. v.items ≡ table (section_header_at bytes.now) place.at 64 place.count) }
     ensures len { IfOk result (λ v. length v.items ≡ place.count) }
 {
-    let mut headers = Vec::new(alloc);
+    let mut headers = Vec::with_capacity(alloc, place.count)?;
     for i in 0..place.count {
         headers.push(section_header(bytes, place.at + 64 * i))?;
     }
@@ -309,7 +309,7 @@ pub(crate) fn read_sections(
     ensures value { Gives (λ v. v.items) result (sections_of file_len names.now headers.now) }
     ensures len { IfOk result (λ v. length v.items ≡ length headers.now) }
 {
-    let mut sections = Vec::new(alloc);
+    let mut sections = Vec::with_capacity(alloc, headers.len())?;
     for header in headers {
         add_section(&mut sections, file_len, names, header)?;
     }

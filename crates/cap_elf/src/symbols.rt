@@ -8,19 +8,13 @@ ghost use Rattle.cap_elf.specs.NameSet.{has_name};
 ghost use Rattle.cap_elf.specs.Exported.{is_exported as is_exported_of, has_exported};
 ghost use Rattle.cap_elf.specs.Symbols.{checked_name as checked_name_of, is_reserved as is_reserved_of, named_of, named_in};
 
-use crate::decode::{SymbolEntry, Table, null_symbol, symbol_entry};
+use crate::decode::{SymbolEntry, Table, symbol_entry};
+use crate::named::{Named, null_alone};
 use crate::names::name_at;
 use crate::records::{Place, Symbol};
-use cap_base::{Check, Fault, Name, Stop, is_plain, refuse};
+use cap_base::{Check, Fault, Stop, is_plain, refuse};
 use std::alloc::{AllocError, Global};
 use std::collections::BTreeSet;
-
-/// A symbol with its name.
-#[derive(Drop)]
-pub struct NamedSymbol {
-    pub symbol: Symbol,
-    pub name: Name,
-}
 
 /// A set of names that lie in the string table.
 #[derive(Drop)]
@@ -86,9 +80,9 @@ pub(crate) fn checked_name<'a>(strings: &'a [u8], entry: &SymbolEntry) -> Result
 /// The symbols so far, and the names of those that other symbols may not have.
 #[derive(Drop)]
 pub(crate) struct Symbols<'a> {
-    pub(crate) named: Vec<NamedSymbol>,
+    pub(crate) named: Named,
     exported: NameSet<'a>,
-    ghost agree: { (q : List ℕ) → has_name exported q ≡ has_exported named.items q },
+    ghost agree: { (q : List ℕ) → has_name exported q ≡ has_exported named q },
 }
 
 impl<'a> Symbols<'a> {
@@ -96,30 +90,20 @@ impl<'a> Symbols<'a> {
     ghost use Rattle.cap_base.specs.Steps.{Gives};
     ghost use Rattle.cap_elf.specs.Symbols.{null_named, symbol_step};
 
-    /// The symbol of index 0 alone.
-    pub(crate) fn new(alloc: Global, at: u64) -> Result<Symbols<'a>, Stop>
-        ensures { Gives (λ s. s.named.items) result (Ok (null_named at ∷ [])) }
+    /// The symbol of index 0 alone, and room for so many.
+    pub(crate) fn new(alloc: Global, at: u64, symbols: usize) -> Result<Symbols<'a>, Stop>
+        ensures { Gives (λ s. s.named) result (Ok (null_named at ∷ [])) }
     {
-        let mut named = Vec::new(alloc);
-        named.push(NamedSymbol {
-            symbol: null_symbol(at),
-            name: Name::empty(alloc),
-        })?;
         Ok(Symbols {
-            named,
+            named: null_alone(alloc, at, symbols)?,
             exported: NameSet::new(alloc),
         })
     }
 
     /// Takes the next symbol.
     #[tactic(auto, unfolding(crate::specs::Symbols::symbol_step))]
-    pub(crate) fn with(
-        self,
-        alloc: Global,
-        strings: &'a [u8],
-        entry: &SymbolEntry,
-    ) -> Result<Symbols<'a>, Stop>
-        ensures { Gives (λ s. s.named.items) result (symbol_step strings.now self.entry.named.items entry.now) }
+    pub(crate) fn with(self, strings: &'a [u8], entry: &SymbolEntry) -> Result<Symbols<'a>, Stop>
+        ensures { Gives (λ s. s.named) result (symbol_step strings.now self.entry.named entry.now) }
     {
         let Symbols {
             mut named,
@@ -133,10 +117,7 @@ impl<'a> Symbols<'a> {
             Check::DuplicateSymbol,
             symbol.at,
         )?;
-        named.push(NamedSymbol {
-            symbol,
-            name: Name::of(alloc, name)?,
-        })?;
+        named.push(symbol, name)?;
         if is_exported {
             exported.add(name)?;
         }
@@ -156,7 +137,7 @@ fn symbol_entries(alloc: Global, bytes: &[u8], place: Table) -> Result<Vec<Symbo
     requires { place.at + 24 * place.count ≤ length bytes.now }
     ensures { IfOk result (λ v. v.items ≡ table (symbol_entry_at bytes.now) place.at 24 place.count) }
 {
-    let mut entries = Vec::new(alloc);
+    let mut entries = Vec::with_capacity(alloc, place.count)?;
     for i in 0..place.count {
         entries.push(symbol_entry(bytes, place.at + 24 * i))?;
     }
@@ -169,12 +150,12 @@ fn checked_symbols(
     strings: &[u8],
     at: u64,
     entries: &[SymbolEntry],
-) -> Result<Vec<NamedSymbol>, Stop>
-    ensures { Gives (λ v. v.items) result (named_of strings.now at entries.now) }
+) -> Result<Named, Stop>
+    ensures { Gives (λ n. n) result (named_of strings.now at entries.now) }
 {
-    let mut symbols = Symbols::new(alloc, at)?;
+    let mut symbols = Symbols::new(alloc, at, entries.len() + 1)?;
     for entry in entries {
-        symbols = symbols.with(alloc, strings, entry)?;
+        symbols = symbols.with(strings, entry)?;
     }
     Ok(symbols.named)
 }
@@ -185,10 +166,10 @@ pub(crate) fn read_symbols(
     bytes: &[u8],
     strings: &[u8],
     place: Table,
-) -> Result<Vec<NamedSymbol>, Stop>
+) -> Result<Named, Stop>
     requires inside { place.at + 24 * place.count ≤ length bytes.now }
     requires some { 0 < place.count }
-    ensures { Gives (λ v. v.items) result (named_in bytes.now strings.now place) }
+    ensures { Gives (λ n. n) result (named_in bytes.now strings.now place) }
 {
     let others = Table {
         at: place.at + 24,

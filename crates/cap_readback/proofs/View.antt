@@ -20,7 +20,7 @@ use Rattle.cap_readback.specs.Stands.{Stands, AreSmall}
 use Rattle.cap_readback.specs.Written.{segments_of}
 use Rattle.cap_readback.specs.Lists.{placed, Entry, entry_fields, entry_read, list_if, own_entries, needed_entries, table_entries}
 use Rattle.cap_readback.specs.Content.{Planned, symbol_read, named_of, Name, Ends, IsLibrary, is_taken, symbol_bytes, entry_of, IsGood, reloc_bytes, reloc_read, IsGoodReloc, cap_fields, cap_bytes, cap_read}
-use Rattle.cap_elf.specs.declared.symbols.NamedSymbol.{NamedSymbol}
+use Rattle.cap_elf.specs.Named.{NamedSymbol}
 use Rattle.cap_readback.specs.View.{own_offset, IsOwn, has_some, Content, strings, is_whole, is_plain, Refused, symbol_count, values, entries, dynamics, words, IsWritten, IsPlanned, view_of}
 use Rattle.cap_readback.proofs.Reading.{stands-back, table-read}
 use Rattle.cap_readback.proofs.Segments.{mapped-is}

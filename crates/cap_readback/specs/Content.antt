@@ -6,7 +6,7 @@ use Rattle.cap_elf.specs.declared.records.Symbol.{Symbol}
 use Rattle.cap_elf.specs.declared.decode.SymbolEntry.{SymbolEntry}
 use Rattle.cap_elf.specs.declared.records.DynReloc.{DynReloc}
 use Rattle.cap_elf.specs.declared.records.CapReloc.{CapReloc}
-use Rattle.cap_elf.specs.declared.symbols.NamedSymbol.{NamedSymbol}
+use Rattle.cap_elf.specs.Named.{NamedSymbol}
 use Rattle.cap_elf.specs.Records.{place_of}
 use Rattle.cap_elf.specs.Names.{is_file_name}
 use Rattle.cap_base.specs.Text.{is_plain as is_printable}
