@@ -26,6 +26,3 @@ mod tally;
 pub use entries::{Bound, Entry, Shape};
 pub use laws::resolve_laws;
 pub use table::{Table, resolve};
-
-#[cfg(test)]
-mod tests;
