@@ -15,13 +15,15 @@ use Rattle.cap_base.specs.declared.check.Check.TheVariants.{CallCount}
 use Rattle.cap_session.specs.Calls.{Call}
 use Rattle.cap_session.specs.Mappings.{IsName}
 use Rattle.purecap.specs.declared.faults.Failure.{Failure}
-use Rattle.purecap.specs.declared.faults.Failure.TheVariants.{Usage, Limit, NotBuilt}
+use Rattle.purecap.specs.declared.faults.Failure.TheVariants.{Usage, Limit}
 use Rattle.purecap.specs.declared.words.Command.{Command as Given}
 use Rattle.purecap.specs.WordRules.{Meant, has_slash, is_long, is_name, is_path, parsed, refuse, too_long, value_of, values_of}
 use Rattle.purecap.specs.LinkWords.{link_words}
 use Rattle.purecap.proofs.Passing.{bind_passed, then_passed, refuse_passed, path_passed}
+use Rattle.purecap.specs.DemoWords.{demo_words}
 use Rattle.purecap.proofs.LinkAccepted.{link_passed}
-use Rattle.purecap.specs.Words.{Command, Show, Load, Link, LoadWords, IsAccepted, IsCallName, asked_by, call_of, command_of, form_of, has_long_name, load_app, load_of, load_words, meaning, show_app, show_of, show_words}
+use Rattle.purecap.proofs.DemoAccepted.{demo_passed}
+use Rattle.purecap.specs.Words.{Command, Show, Load, Link, Demo, LoadWords, IsAccepted, IsCallName, asked_by, call_of, command_of, form_of, has_long_name, load_app, load_of, load_words, meaning, show_app, show_of, show_words}
 
 choice_passed : {A Goal : Type 0} (b : Bool) (x y z : A) → cond b x y ≡ z → (x ≡ z → Goal) → (y ≡ z → Goal) → Goal
 choice_passed true x y z h first second = first h
@@ -122,6 +124,11 @@ link_command_passed words command h =
     let one = bind_passed (link_words words) (λ asked. Ok (Link asked)) command h in
     subst IsAccepted (same_command (Link one.0) command one.2) (link_passed words one.0 one.1)
 
+demo_command_passed : (words : List Text) (command : Command) → (demo_words words >>= λ number. Ok (Demo number)) ≡ Ok command → IsAccepted command
+demo_command_passed words command h =
+    let one = bind_passed (demo_words words) (λ number. Ok (Demo number)) command h in
+    subst IsAccepted (same_command (Demo one.0) command one.2) (demo_passed words one.0 one.1)
+
 command_passed : (words : List Text) (command : Command) → command_of words ≡ Ok command → IsAccepted command
 unfolding command_of
 command_passed [] command h = absurd (cc)
@@ -129,7 +136,7 @@ command_passed (first ∷ words) command h =
     choice_passed (bytes_eq first (codes "show")) (show_words (first ∷ words)) _ (Ok command) h (show_words_passed (first ∷ words) command) (λ h.
     choice_passed (bytes_eq first (codes "load")) (load_words (first ∷ words)) _ (Ok command) h (load_words_passed (first ∷ words) command) (λ h.
     choice_passed (bytes_eq first (codes "link")) (link_words (first ∷ words) >>= λ asked. Ok (Link asked)) _ (Ok command) h (link_command_passed (first ∷ words) command) (λ h.
-    choice_passed (bytes_eq first (codes "demo")) (Err NotBuilt) (Err Usage) (Ok command) h (λ h. absurd (cc)) (λ h. absurd (cc)))))
+    choice_passed (bytes_eq first (codes "demo")) (demo_words (first ∷ words) >>= λ number. Ok (Demo number)) (Err Usage) (Ok command) h (demo_command_passed (first ∷ words) command) (λ h. absurd (cc)))))
 
 -- each command that is accepted has what the definition promises
 pub accepted : (words : List Text) (given : Result Given Failure) → Meant meaning given (command_of words) → IfOk given (λ command. IsAccepted (meaning command))

@@ -7,9 +7,9 @@ use Rattle.cap_mem.specs.Tagged.{TaggedMemory}
 use Rattle.purecap.specs.declared.faults.Failure.{Failure}
 use Rattle.purecap.specs.declared.faults.Failure.TheVariants.{WriteFault}
 use Rattle.purecap.specs.Linking.{Found, found_in, link_story}
-use Rattle.purecap.specs.Words.{Command, Show, Load, Link, command_of}
+use Rattle.purecap.specs.Words.{Command, Show, Load, Link, Demo, command_of}
 use Rattle.purecap.specs.Story.{stopped, Product, Printed, Saved, Stop, stop_at, Story}
-use Rattle.purecap.specs.Answer.{show_story, command_story, answer_by, answer_of, answer_to}
+use Rattle.purecap.specs.Answer.{show_story, demo_story, command_story, answer_by, answer_of, answer_to}
 use Rattle.purecap.specs.Run.{Stream, Disk, IsStill, IsWritten, IsGiven, IsGivenPart, EndsAs, HasRisen, Ends, end_status, Runs, Gave, IsHalf, Answers, target_of, Says}
 use Rattle.purecap.specs.Answer as answer
 use Rattle.purecap.proofs.Ways.{Way, Done, Unread, CutShort, Starved, Refused, way_of}
@@ -100,6 +100,8 @@ command_gave (Ok (Link words)) store disk told out err kept end ends =
     let is = subst (λ (o : Option Store). IfSome o (λ s. ends.found ≡ map (found_in s) words.inputs)) told ends.are_found.files_are in
     let there = subst (λ (found : List Found). EndsAs (link_story words found) disk out err kept end) is ends.ends in
     gave store disk told out err kept end (link_story words (map (found_in store) words.inputs)) (way_of _ disk out err kept end there)
+command_gave (Ok (Demo number)) store disk told out err kept end ends =
+    gave store disk told out err kept end (demo_story number) (way_of _ disk out err kept end ends.ends)
 command_gave (Err failure) store disk told out err kept end ends =
     gave store disk told out err kept end (stopped [] failure) (way_of _ disk out err kept end ends.ends)
 

@@ -11,15 +11,16 @@ use Rattle.cap_image.specs.Reading.{read_image}
 use Rattle.cap_session.specs.declared.refusal.OpenCause.{OpenCause}
 use Rattle.cap_session.specs.declared.refusal.OpenCause.TheVariants as causes
 use Rattle.purecap.specs.declared.faults.Failure.{Failure}
-use Rattle.purecap.specs.declared.faults.Failure.TheVariants.{Usage, Limit, NoMemory, NotBuilt}
+use Rattle.purecap.specs.declared.faults.Failure.TheVariants.{Usage, Limit, NoMemory}
 use Rattle.purecap.specs.Faults.{status_of, failure_of}
 use Rattle.purecap.specs.Linking.{link_end, link_story}
-use Rattle.purecap.specs.Words.{Command, Show, Load, Link, LoadWords, command_of}
+use Rattle.purecap.specs.Words.{Command, Show, Load, Link, Demo, LoadWords, command_of}
 use Rattle.purecap.specs.Story.{Product, Printed, Saved, Stop, stop_at, Story, stopped}
-use Rattle.purecap.specs.Answer.{failure_by, report_in, shown, printed, show_story, note_lines}
+use Rattle.purecap.specs.Answer.{failure_by, report_in, shown, printed, show_story, demo_story, demo_text, note_lines}
 use Rattle.purecap.specs.Run.{Stream, Disk, IsStill, IsKept, HasRisen, IsUntouched, IsNothing, IsGiven, IsGivenPart, IsCalm, IsLoaded, Says, Ends, end_status, Runs, output_count, IsPlain, IsAside, HasCauses}
 use Rattle.purecap.proofs.LinkEnds.{IsLinkEnd, link_end_is}
-use Rattle.purecap.proofs.Ways.{of_no_file, IsRefusal, Way, Done, Unread, CutShort, Starved, Refused, way_of, refusal_2, refusal_13, status_usage, status_not_built}
+use Rattle.purecap.proofs.DemoEnds.{demo_fails, demo_product}
+use Rattle.purecap.proofs.Ways.{of_no_file, IsRefusal, Way, Done, Unread, CutShort, Starved, Refused, way_of, refusal_2, status_usage}
 
 -- a file gives none that the words alone give
 abbrev fails_so : {A : Type 0} → Result A Failure → Bool
@@ -105,6 +106,15 @@ loaded_product : (words : LoadWords) (product : Product) → IsLoaded words.imag
 loaded_product words (Printed output) loaded = loaded
 loaded_product words (Saved name bytes memories) loaded = tt
 
+-- `demo` fails by none that the words alone give, and prints
+demo_ends : (number : ℕ) (given : Result Product Stop) → (demo_story number).«end» ≡ given → end_fails given ≡ false
+demo_ends number (Ok product) is = refl
+demo_ends number (Err stop) is = demo_fails number stop is
+
+demo_prints : (number : ℕ) (product : Product) → (demo_story number).«end» ≡ Ok product → IsOf (Ok (Demo number)) product
+demo_prints number product is =
+    let text = demo_product (demo_text number) product is in subst (IsOf (Ok (Demo number))) (sym text.1) tt
+
 same_failure : (f failure : Failure) (path : List ℕ) → stop_at [] f ≡ stop_at path failure → f ≡ failure
 same_failure f failure path is = ap (λ (s : Stop). s.failure) is
 
@@ -131,6 +141,12 @@ faces (Ok (Link words)) disk out err kept end ends = record {
   by_words = λ failure path own is. absurd (not_defined (link_end words ends.found) failure path (link_fails (link_end words ends.found) (link_end_is words ends.found)) own is);
   products = λ product is. link_product product (subst IsLinkEnd is (link_end_is words ends.found));
 }
+faces (Ok (Demo number)) disk out err kept end ends = record {
+  story = demo_story number;
+  way = way_of (demo_story number) disk out err kept end ends.ends;
+  by_words = λ failure path own is. absurd (not_defined (demo_story number).«end» failure path (demo_ends number (demo_story number).«end» refl) own is);
+  products = demo_prints number;
+}
 faces (Err f) disk out err kept end ends = record {
   story = stopped [] f;
   way = way_of (stopped [] f) disk out err kept end ends.ends;
@@ -149,6 +165,7 @@ kept_count : (command : Result Command Failure) (disk : Disk) (out : Stream) →
 kept_count (Ok (Show image)) disk out writes faults = faults
 kept_count (Ok (Load words)) disk out writes faults = writes
 kept_count (Ok (Link words)) disk out writes faults = writes
+kept_count (Ok (Demo number)) disk out writes faults = faults
 kept_count (Err failure) disk out writes faults = faults
 
 given_kept : (command : Result Command Failure) (disk : Disk) (out : Stream) (kept : List TaggedMemory) (product : Product) → IsOf command product → IsGiven product disk out kept → IsKept (output_count command disk out)
@@ -158,6 +175,8 @@ given_kept (Ok (Load words)) disk out kept (Printed output) of given = absurd of
 given_kept (Ok (Load words)) disk out kept (Saved name bytes memories) of given = given.0.count
 given_kept (Ok (Link words)) disk out kept (Printed output) of given = absurd of
 given_kept (Ok (Link words)) disk out kept (Saved name bytes memories) of given = given.0.count
+given_kept (Ok (Demo number)) disk out kept (Printed output) of given = given.1.count
+given_kept (Ok (Demo number)) disk out kept (Saved name bytes memories) of given = absurd of
 given_kept (Err failure) disk out kept (Printed output) of given = given.1.count
 given_kept (Err failure) disk out kept (Saved name bytes memories) of given = absurd of
 
@@ -169,6 +188,8 @@ part_rose (Ok (Load words)) disk out kept (Printed output) of given = absurd of
 part_rose (Ok (Load words)) disk out kept (Saved name bytes memories) of given = given.0.rose
 part_rose (Ok (Link words)) disk out kept (Printed output) of given = absurd of
 part_rose (Ok (Link words)) disk out kept (Saved name bytes memories) of given = given.0.rose
+part_rose (Ok (Demo number)) disk out kept (Printed output) of given = given.1.rose
+part_rose (Ok (Demo number)) disk out kept (Saved name bytes memories) of given = absurd of
 part_rose (Err failure) disk out kept (Printed output) of given = given.1.rose
 part_rose (Err failure) disk out kept (Saved name bytes memories) of given = absurd of
 
@@ -312,6 +333,16 @@ aside (Ok (Link words)) disk out err kept end ends =
       file_still disk out err kept end face.story face.products face.way,
       plain disk out err kept end (link_story words ends.found) refl ends.calm (λ product is. link_bare product (subst IsLinkEnd is (link_end_is words ends.found))) (way_of _ disk out err kept end ends.ends),
     )
+aside (Ok (Demo number)) disk out err kept end ends =
+    let way = way_of (demo_story number) disk out err kept end ends.ends in (
+      untouched [] disk out err kept end (demo_story number) (λ product is. shown_as_printed product (demo_prints number product is)) way,
+      ends.reads_kept,
+      plain disk out err kept end (demo_story number) refl (λ e. ends.reads_kept) (λ product is. shown_bare [] product (shown_as_printed product (demo_prints number product is))) way,
+    )
+  where
+    shown_as_printed : (product : Product) → IsOf (Ok (Demo number)) product → IsOf (Ok (Show [])) product
+    shown_as_printed (Printed output) of = tt
+    shown_as_printed (Saved name bytes memories) of = absurd of
 aside (Err failure) disk out err kept end ends =
     let way = way_of (stopped [] failure) disk out err kept end ends.ends in
     (untouched [] disk out err kept end (stopped [] failure) (λ product is. cc) way, plain disk out err kept end (stopped [] failure) refl ends.calm (λ product is. cc) way)
@@ -327,8 +358,6 @@ end_causes words disk out err kept end ends =
     record {
       usage = λ is. let at = own Usage refusal_2 status_usage is in face.by_words Usage at.0 refl at.1;
       is_usage = given Usage;
-      not_built = λ is. let at = own NotBuilt refusal_13 status_not_built is in face.by_words NotBuilt at.0 refl at.1;
-      is_not_built = given NotBuilt;
       is_limit = λ check. given (Limit check);
       read_fault = read_fault command disk out err kept end face.story face.way;
       read_rose = read_rose command disk out err kept end face.story face.way;

@@ -126,7 +126,7 @@ symbols_of [] = refl
 symbols_of (o ∷ objects) = ap (λ (rest : List (List (List ℕ × Bool))). (hash_table (records_of o)).names ∷ rest) (symbols_of objects)
 
 -- the image of a session is that of the state for which it stands
-image_is : (s : SessionValue) (state : State) → IsSession s → StandsFor s state → image_of s.names s.symbols s.memories ≡ state_image state
+pub image_is : (s : SessionValue) (state : State) → IsSession s → StandsFor s state → image_of s.names s.symbols s.memories ≡ state_image state
 image_is s state is stands =
     let symbols : s.symbols ≡ map (λ o. (hash_table (records_of o)).names) state.objects =
     is.roster.symbols_are ∙ ap (map (λ o. (hash_table o).names)) stands.objects_are ∙ symbols_of state.objects in

@@ -4,14 +4,14 @@ use Rattle.cap_base.specs.Outside.{Store}
 use Rattle.cap_mem.specs.Tagged.{TaggedMemory}
 use Rattle.cap_session.specs.declared.refusal.OpenCause.TheVariants as causes
 use Rattle.purecap.specs.declared.faults.Failure.{Failure}
-use Rattle.purecap.specs.declared.faults.Failure.TheVariants.{Usage, NoFile, Malformed, Unsupported, Unresolved, Inexact, Full, Limit, ReadFault, WriteFault, NoMemory, NotBuilt}
+use Rattle.purecap.specs.declared.faults.Failure.TheVariants.{Usage, NoFile, Malformed, Unsupported, Unresolved, Inexact, Full, Limit, ReadFault, WriteFault, NoMemory}
 use Rattle.purecap.specs.Faults.{line_of}
 use Rattle.purecap.specs.WordRules.{FailsAs}
 use Rattle.purecap.specs.Linking.{link_story}
 use Rattle.purecap.proofs.LinkSteps.{some_found}
-use Rattle.purecap.specs.Words.{Command, Show, Load, Link, LoadWords}
+use Rattle.purecap.specs.Words.{Command, Show, Load, Link, Demo, LoadWords}
 use Rattle.purecap.specs.Story.{Printed, Story, stopped}
-use Rattle.purecap.specs.Answer.{printed, shown, show_story, load_story}
+use Rattle.purecap.specs.Answer.{printed, shown, show_story, load_story, demo_story}
 use Rattle.purecap.specs.Run.{Stream, Disk, IsStill, IsKept, IsUntouched, IsNothing, IsDone, IsRefused, IsCutShort, IsStarved, EndsAs, Says, IsLoaded, Shows, Ends, IsOfWords}
 use Rattle.purecap.specs.Printing.{IsUnprinted, PrintsAs, Prints, shown_path}
 use Rattle.purecap.proofs.Ways.{is_of_words, or_fails}
@@ -55,7 +55,6 @@ module _ (image : List ℕ) (disk : Disk) (out err : Stream) (untouched : IsUnto
   shown_as answer (Err (Inexact name base len)) is says = refused answer (Inexact name base len) is says
   shown_as answer (Err (Full asked)) is says = refused answer (Full asked) is says
   shown_as answer (Err (Limit check)) is says = refused answer (Limit check) is says
-  shown_as answer (Err NotBuilt) is says = refused answer NotBuilt is says
 
   pub shows_of : (end : Result Unit Failure) → Prints disk.old image disk.reads out end → EndSaid image err end → Shows image disk out err [] end
   shows_of end prints says = record {
@@ -97,6 +96,7 @@ module _ (disk : Disk) (out err : Stream) (kept : List TaggedMemory) (nothing : 
   starves (Ok (Link words)) says =
       let some = some_found disk.old words.inputs in
       record { found = some.0; are_found = some.1; ends = starved (link_story words some.0) says; calm = λ e. reads }
+  starves (Ok (Demo number)) says = record { ends = starved (demo_story number) says; reads_kept = reads }
   starves (Err failure) says = record { is_end = inr refl; ends = starved (stopped [] failure) says; calm = λ e. reads }
 
   -- the words fail
@@ -108,7 +108,6 @@ module _ (disk : Disk) (out err : Stream) (kept : List TaggedMemory) (nothing : 
   pub fails_of : (command : Result Command Failure) (failure : Failure) → FailsAs failure command → or_fails is_of_words command ≡ true → Says err (line_of [] failure ∷ []) → Ends command disk out err kept (Err failure)
   fails_of command Usage is words says = fails command Usage is tt (record { path = []; defined = refl; nothing = nothing; says = says; reads_kept = reads })
   fails_of command (Limit check) is words says = fails command (Limit check) is tt (record { path = []; defined = refl; nothing = nothing; says = says; reads_kept = reads })
-  fails_of command NotBuilt is words says = fails command NotBuilt is tt (record { path = []; defined = refl; nothing = nothing; says = says; reads_kept = reads })
   fails_of command NoMemory is words says = starves command says
   fails_of command NoFile is words says = absurd (not_of_words command NoFile is words refl)
   fails_of command (Malformed check at) is words says = absurd (not_of_words command (Malformed check at) is words refl)

@@ -9,9 +9,9 @@ use Rattle.cap_session.specs.declared.refusal.OpenRefusal.{OpenRefusal}
 use Rattle.cap_session.specs.Exact.{IsInexact, IsInexactCause}
 use Rattle.cap_session.specs.State.{State}
 use Rattle.purecap.specs.declared.faults.Failure.{Failure}
-use Rattle.purecap.specs.declared.faults.Failure.TheVariants.{NotBuilt}
+use Rattle.purecap.specs.declared.faults.Failure.TheVariants.{Usage}
 use Rattle.purecap.specs.Faults.{status_of, failure_of}
-use Rattle.purecap.specs.Words.{Command, Show, Load, Link, LoadWords, command_of}
+use Rattle.purecap.specs.Words.{Command, Show, Load, Link, Demo, LoadWords, command_of}
 use Rattle.purecap.specs.Story.{Product, Stop, stop_at, Story}
 use Rattle.purecap.specs.Answer.{saved, load_story}
 use Rattle.purecap.specs.Run.{Stream, Disk, EndsAs, Loads, Ends, end_status, Runs}
@@ -30,7 +30,7 @@ bounds_alone causes.ReadFault e = absurd (omega (arith, e))
 bounds_alone causes.NoMemory e = absurd (omega (arith, e))
 
 abbrev failure_in : Result Product Stop → Failure
-failure_in (Ok product) = NotBuilt
+failure_in (Ok product) = Usage
 failure_in (Err stop) = stop.failure
 
 -- an outcome that ends with the status of bounds
@@ -66,6 +66,7 @@ exact_of law (Ok (Show image)) store disk out err kept end told ends = tt
 exact_of law (Ok (Load words)) store disk out err kept end told ends =
     record { keeps = law store (run_of words); refused = load_refused words store disk out err kept end told ends }
 exact_of law (Ok (Link words)) store disk out err kept end told ends = tt
+exact_of law (Ok (Demo number)) store disk out err kept end told ends = tt
 exact_of law (Err failure) store disk out err kept end told ends = tt
 
 exact_by : LoadsKeepBounds → (command : Result Command Failure) (disk : Disk) (out err : Stream) (kept : List TaggedMemory) (end : Result Unit Failure) → Ends command disk out err kept end

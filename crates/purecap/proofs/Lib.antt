@@ -5,6 +5,9 @@ pub mod Parsing
 pub mod LinkParsing
 pub mod Passing
 pub mod LinkAccepted
+pub mod DemoAccepted
+pub mod DemoObjects
+pub mod WordSums
 pub mod Accepted
 pub mod WordFaults
 pub mod Said
@@ -15,6 +18,8 @@ pub mod Coming
 pub mod Ended
 pub mod LinkSteps
 pub mod LinkEnds
+pub mod DemoSteps
+pub mod DemoEnds
 pub mod Causes
 pub mod Answered
 pub mod ExactRuns

@@ -24,7 +24,7 @@ use Rattle.purecap.specs.LinkWords.{LinkWords, IsLink, IsSoname, asked_by, is_no
 use Rattle.purecap.specs.Linking.{kind_of}
 use Rattle.purecap.proofs.Passing.{bind_passed, then_passed, refuse_passed, path_passed}
 
-paths_passed : (inputs : List Text) → list_any is_no_path inputs ≡ false → list_any is_long inputs ≡ false → All IsName inputs
+pub paths_passed : (inputs : List Text) → list_any is_no_path inputs ≡ false → list_any is_long inputs ≡ false → All IsName inputs
 paths_passed [] good short = All-nil IsName
 paths_passed (input ∷ inputs) good short =
     let one = or_parts (is_no_path input) (list_any is_no_path inputs) good in

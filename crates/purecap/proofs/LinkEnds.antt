@@ -9,7 +9,7 @@ use Rattle.cap_base.specs.declared.refusal.Refusal.TheVariants as refusals
 use Rattle.cap_link.specs.Inputs.{Input}
 use Rattle.cap_link.specs.Linked.{linked_file, refused_name}
 use Rattle.purecap.specs.declared.faults.Failure.{Failure}
-use Rattle.purecap.specs.declared.faults.Failure.TheVariants.{Usage, NoFile, Malformed, Unsupported, Unresolved, Inexact, Full, Limit, ReadFault, WriteFault, NoMemory, NotBuilt}
+use Rattle.purecap.specs.declared.faults.Failure.TheVariants.{Usage, NoFile, Malformed, Unsupported, Unresolved, Inexact, Full, Limit, ReadFault, WriteFault, NoMemory}
 use Rattle.purecap.specs.Faults.{line_of}
 use Rattle.purecap.specs.LinkWords.{LinkWords}
 use Rattle.purecap.specs.Story.{Product, Printed, Saved, Stop, stop_at, Story}
@@ -35,7 +35,6 @@ module _ (words : LinkWords) (found : List Found) (disk : Disk) (out err : Strea
   stops_end path ReadFault is says = record { told = []; later = []; notes = refl; path = path; nothing = nothing; says = says; rose = is }
   stops_end path WriteFault is says = absurd is
   stops_end path NoMemory is says = record { told = []; later = []; notes = refl; nothing = nothing; says = says; reads_later = omega (arith, is) }
-  stops_end path NotBuilt is says = record { path = path; defined = is.0; nothing = nothing; says = says; reads_kept = is.1 }
 
 abbrev fail : Failure → Result Unit Failure
 fail failure = Err failure

@@ -11,7 +11,7 @@ use Rattle.cap_base.specs.declared.reading.FileRefusal.{FileRefusal}
 use Rattle.cap_base.specs.declared.reading.FileRefusal.TheVariants as files
 use Rattle.cap_image.specs.Reading.{read_image}
 use Rattle.purecap.specs.declared.faults.Failure.{Failure}
-use Rattle.purecap.specs.declared.faults.Failure.TheVariants.{Usage, NoFile, Malformed, Unsupported, Unresolved, Inexact, Full, Limit, ReadFault, WriteFault, NoMemory, NotBuilt}
+use Rattle.purecap.specs.declared.faults.Failure.TheVariants.{Usage, NoFile, Malformed, Unsupported, Unresolved, Inexact, Full, Limit, ReadFault, WriteFault, NoMemory}
 use Rattle.purecap.specs.Answer.{report_in, shown}
 use Rattle.purecap.specs.Reading.{unread, IsFailureOf}
 use Rattle.purecap.specs.Run.{Count, Stream, IsStill, IsKept, Outputs}
@@ -96,4 +96,3 @@ ends_refused answer reads out (Limit check) is still kept = record { defined = i
 ends_refused answer reads out ReadFault is still kept = absurd is
 ends_refused answer reads out WriteFault is still kept = absurd is
 ends_refused answer reads out NoMemory is still kept = record { still = still; reads_kept = kept }
-ends_refused answer reads out NotBuilt is still kept = record { defined = is; still = still; reads_kept = kept }

@@ -2,7 +2,7 @@
 use Rattle.std.proofs.Common.{◌≡◌, ◌≢◌, ℕ, Bool, true, false, List, Result, Ok, Err, refl, arith}
 use Rattle.cap_mem.specs.Tagged.{TaggedMemory}
 use Rattle.purecap.specs.declared.faults.Failure.{Failure}
-use Rattle.purecap.specs.declared.faults.Failure.TheVariants.{Usage, NoFile, Malformed, Unsupported, Unresolved, Inexact, Full, Limit, ReadFault, WriteFault, NoMemory, NotBuilt}
+use Rattle.purecap.specs.declared.faults.Failure.TheVariants.{Usage, NoFile, Malformed, Unsupported, Unresolved, Inexact, Full, Limit, ReadFault, WriteFault, NoMemory}
 use Rattle.purecap.specs.Faults.{status_of}
 use Rattle.purecap.specs.Story.{Story}
 use Rattle.purecap.specs.Run.{Stream, Disk, IsDone, IsCutShort, IsRefused, IsUnread, IsStarved, EndsAs}
@@ -10,14 +10,12 @@ use Rattle.purecap.specs.Run.{Stream, Disk, IsDone, IsCutShort, IsRefused, IsUnr
 -- a failure that the words define
 abbrev pub is_of_words : Failure → Bool
 is_of_words Usage = true
-is_of_words NotBuilt = true
 is_of_words (Limit check) = true
 is_of_words failure = false
 
 -- no file and no call gives this failure
 abbrev pub of_no_file : Failure → Bool
 of_no_file Usage = true
-of_no_file NotBuilt = true
 of_no_file failure = false
 
 -- the test holds of the failure, where there is one
@@ -64,9 +62,6 @@ refusal_8 = record { not_done = λ e. omega (arith, e); not_unread = λ e. omega
 refusal_9 : IsRefusal 9
 refusal_9 = record { not_done = λ e. omega (arith, e); not_unread = λ e. omega (arith, e); not_cut = λ e. omega (arith, e); not_starved = λ e. omega (arith, e) }
 
-pub refusal_13 : IsRefusal 13
-refusal_13 = record { not_done = λ e. omega (arith, e); not_unread = λ e. omega (arith, e); not_cut = λ e. omega (arith, e); not_starved = λ e. omega (arith, e) }
-
 pub way_of : (story : Story) (disk : Disk) (out err : Stream) (kept : List TaggedMemory) (end : Result Unit Failure) → EndsAs story disk out err kept end → Way story disk out err kept end
 way_of story disk out err kept (Ok _) ends = Done refl ends
 way_of story disk out err kept (Err Usage) ends = Refused Usage refl refusal_2 ends
@@ -80,7 +75,6 @@ way_of story disk out err kept (Err (Limit check)) ends = Refused (Limit check) 
 way_of story disk out err kept (Err ReadFault) ends = Unread refl ends
 way_of story disk out err kept (Err WriteFault) ends = CutShort refl ends
 way_of story disk out err kept (Err NoMemory) ends = Starved refl ends
-way_of story disk out err kept (Err NotBuilt) ends = Refused NotBuilt refl refusal_13 ends
 
 -- the statuses tell the failures apart
 pub status_usage : (failure : Failure) → status_of failure ≡ 2 → failure ≡ Usage
@@ -95,18 +89,3 @@ status_usage (Limit check) is = absurd (omega (arith, is))
 status_usage ReadFault is = absurd (omega (arith, is))
 status_usage WriteFault is = absurd (omega (arith, is))
 status_usage NoMemory is = absurd (omega (arith, is))
-status_usage NotBuilt is = absurd (omega (arith, is))
-
-pub status_not_built : (failure : Failure) → status_of failure ≡ 13 → failure ≡ NotBuilt
-status_not_built Usage is = absurd (omega (arith, is))
-status_not_built NoFile is = absurd (omega (arith, is))
-status_not_built (Malformed check at) is = absurd (omega (arith, is))
-status_not_built (Unsupported check at) is = absurd (omega (arith, is))
-status_not_built (Unresolved name) is = absurd (omega (arith, is))
-status_not_built (Inexact name base len) is = absurd (omega (arith, is))
-status_not_built (Full asked) is = absurd (omega (arith, is))
-status_not_built (Limit check) is = absurd (omega (arith, is))
-status_not_built ReadFault is = absurd (omega (arith, is))
-status_not_built WriteFault is = absurd (omega (arith, is))
-status_not_built NoMemory is = absurd (omega (arith, is))
-status_not_built NotBuilt is = refl

@@ -1,6 +1,6 @@
--- How words are refused: as no command, as a command that is not built, or at a limit.
+-- How words are refused: as no command, or at a limit.
 use Rattle.std.proofs.Common.{◌≡◌, Bool, true, false, cond, List, [], ◌∷◌, codes, Result, Ok, Err, refl}
-use Rattle.std.specs.Prelude.{◌||◌, not, nat_lt, length}
+use Rattle.std.specs.Prelude.{◌||◌, ◌^◌, not, nat_lt, nat_le, length}
 use Rattle.std.specs.List.{before_first, after_first}
 use Rattle.std.specs.Prelude.{◌==◌}
 use Rattle.std.specs.Str.{bytes_eq}
@@ -13,12 +13,13 @@ use Rattle.cap_base.specs.Steps.{◌>>=◌, ◌>>◌, gather}
 use Rattle.cap_base.specs.declared.check.Check.TheVariants.{CallCount}
 use Rattle.cap_session.specs.declared.form.Form.TheVariants as forms
 use Rattle.purecap.specs.declared.faults.Failure.{Failure}
-use Rattle.purecap.specs.declared.faults.Failure.TheVariants.{Usage, Limit, NotBuilt}
+use Rattle.purecap.specs.declared.faults.Failure.TheVariants.{Usage, Limit}
 use Rattle.purecap.specs.WordRules.{is_long, is_name, is_path, parsed, refuse, too_long, unless_faulty, value_of, values_of}
 use Rattle.std.specs.Option.{option_map_or}
 use Rattle.std.specs.List.{list_any}
 use Rattle.purecap.specs.LinkWords.{LinkWords, asked_by as link_asked, is_no_name, is_no_path, link_app, link_of, link_words}
-use Rattle.purecap.specs.Words.{Show, Load, Link, LoadWords, asked_by, call_of, command_of, form_of, has_long_name, load_app, load_of, load_words, show_app, show_of, show_words}
+use Rattle.purecap.specs.DemoWords.{demo_app, demo_words, is_numeral, number_in, number_of as number_word}
+use Rattle.purecap.specs.Words.{Show, Load, Link, Demo, LoadWords, asked_by, call_of, command_of, form_of, has_long_name, load_app, load_of, load_words, show_app, show_of, show_words}
 use Rattle.purecap.proofs.Ways.{is_of_words, or_fails}
 
 abbrev Fits : {A : Type 0} → Result A Failure → Type 0
@@ -107,6 +108,15 @@ link_words_fail : (words : List Text) → Fits (link_words words)
 unfolding link_words
 link_words_fail words = bind_fails (parsed link_app words) _ (parsed_fails link_app words) (λ rows. link_fails (link_asked rows))
 
+number_fails : (word : Text) → Fits (number_word word)
+unfolding number_word
+number_fails word =
+    then_fails _ (Ok (number_in word)) (then_fails _ _ (refuse_fails (not (is_numeral word)) Usage refl) (refuse_fails (nat_le (2 ^ 32) (number_in word)) Usage refl)) refl
+
+demo_words_fail : (words : List Text) → Fits (demo_words words)
+unfolding demo_words
+demo_words_fail words = bind_fails (parsed demo_app words) _ (parsed_fails demo_app words) (λ rows. number_fails (value_of rows (codes "number")))
+
 pub words_fail : (words : List Text) → or_fails is_of_words (command_of words) ≡ true
 unfolding command_of
 words_fail [] = refl
@@ -114,4 +124,4 @@ words_fail (first ∷ words) =
     choice_fails (bytes_eq first (codes "show")) (show_words (first ∷ words)) _ (show_words_fail (first ∷ words))
     (choice_fails (bytes_eq first (codes "load")) (load_words (first ∷ words)) _ (load_words_fail (first ∷ words))
     (choice_fails (bytes_eq first (codes "link")) (link_words (first ∷ words) >>= λ asked. Ok (Link asked)) _ (bind_fails (link_words (first ∷ words)) _ (link_words_fail (first ∷ words)) (λ asked. refl))
-    (choice_fails (bytes_eq first (codes "demo")) (Err NotBuilt) (Err Usage) refl refl)))
+    (choice_fails (bytes_eq first (codes "demo")) (demo_words (first ∷ words) >>= λ number. Ok (Demo number)) (Err Usage) (bind_fails (demo_words (first ∷ words)) _ (demo_words_fail (first ∷ words)) (λ number. refl)) refl)))

@@ -2,6 +2,7 @@
 use Rattle.std.specs.Prelude.{ℕ, true, ◌^◌, nat_lt, List, [], ◌∷◌, ◌++◌, length, map, Option, Some, None, Result, Ok, Err, if◌then◌else◌}
 use Rattle.cap_base.specs.Check.{number_of, class_of}
 use Rattle.cap_base.specs.Outside.{Store, file_in}
+use Rattle.cap_base.specs.Steps.{◌>>=◌}
 use Rattle.cap_base.specs.declared.check.Check.TheVariants.{FileSize}
 use Rattle.cap_base.specs.declared.check.Class.{Class}
 use Rattle.cap_base.specs.declared.check.Class.TheVariants as classes
@@ -19,10 +20,11 @@ use Rattle.cap_session.specs.Calls.{Outcome, outcome_of}
 use Rattle.purecap.specs.declared.faults.Failure.{Failure}
 use Rattle.purecap.specs.declared.faults.Failure.TheVariants.{NoFile, Malformed, Unsupported, Limit}
 use Rattle.purecap.specs.Faults.{failure_of, refusal_line, status_of, line_of}
-use Rattle.purecap.specs.Words.{Command, Show, Load, Link, LoadWords, command_of}
+use Rattle.purecap.specs.Words.{Command, Show, Load, Link, Demo, LoadWords, command_of}
 use Rattle.purecap.specs.Story.{Product, Printed, Saved, Stop, stop_at, Story, stopped}
 use Rattle.purecap.specs.LinkWords.{LinkWords}
 use Rattle.purecap.specs.Linking.{found_in, link_story}
+use Rattle.purecap.specs.Demo.{demo_linked, demo_started, demo_opened, summary_of}
 
 -- the failure of a check, by its class
 abbrev pub failure_by : Class → ℕ → ℕ → Failure
@@ -76,11 +78,28 @@ story_of image outcome = record { notes = outcome.notes; «end» = saved image o
 abbrev pub load_story : LoadWords → Store → Story
 load_story words store = story_of words.image (outcome_of (fetch_from store) words.dir words.main words.rule words.calls)
 
+-- the summary of what the objects of a number are linked to, once it is loaded
+unfoldable pub demo_text : ℕ → Result (List ℕ) Stop
+demo_text number = do
+  store ← demo_linked number
+  first ← demo_started store
+  state ← demo_opened store first
+  Ok (summary_of number (state_image state))
+
+-- `demo`, of this summary
+abbrev pub summed : Result (List ℕ) Stop → Result Product Stop
+summed (Ok text) = Ok (Printed text)
+summed (Err stop) = Err stop
+
+abbrev pub demo_story : ℕ → Story
+demo_story number = record { notes = []; «end» = summed (demo_text number) }
+
 -- the story of a command; words that are no command name no file
 abbrev pub command_story : Result Command Failure → Store → Story
 command_story (Ok (Show image)) store = show_story image (file_in store image)
 command_story (Ok (Load words)) store = load_story words store
 command_story (Ok (Link words)) store = link_story words (map (found_in store) words.inputs)
+command_story (Ok (Demo number)) store = demo_story number
 command_story (Err failure) store = stopped [] failure
 
 -- an answer: the status, the bytes for standard output, the lines for the error output, the file that is entered in the

@@ -5,7 +5,7 @@ use Rattle.cap_exact.specs.Loads.{Run, KeepsBounds, outcome_in}
 use Rattle.cap_session.specs.declared.refusal.OpenRefusal.{OpenRefusal}
 use Rattle.cap_session.specs.Exact.{IsInexact}
 use Rattle.purecap.specs.declared.faults.Failure.{Failure}
-use Rattle.purecap.specs.Words.{Command, Show, Load, Link, LoadWords}
+use Rattle.purecap.specs.Words.{Command, Show, Load, Link, Demo, LoadWords}
 
 -- the run of the loader that these words ask for
 abbrev pub run_of : LoadWords → Run
@@ -27,6 +27,7 @@ abbrev pub IsExactOf : Result Command Failure → Store → ℕ → Type 0
 IsExactOf (Ok (Show image)) store status = Unit {0}
 IsExactOf (Ok (Load words)) store status = LoadsExactly words store status
 IsExactOf (Ok (Link words)) store status = Unit {0}
+IsExactOf (Ok (Demo number)) store status = Unit {0}
 IsExactOf (Err failure) store status = Unit {0}
 
 -- the same of a run, where the store tells its files

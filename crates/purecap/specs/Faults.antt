@@ -6,7 +6,7 @@ use Rattle.purecap.specs.declared.faults.Failure.{Failure}
 use Rattle.cap_session.specs.declared.refusal.OpenCause.{OpenCause}
 use Rattle.cap_session.specs.declared.refusal.OpenCause.TheVariants as causes
 use Rattle.cap_session.specs.declared.refusal.OpenRefusal.{OpenRefusal}
-use Rattle.purecap.specs.declared.faults.Failure.TheVariants.{Usage, NoFile, Malformed, Unsupported, Unresolved, Inexact, Full, Limit, ReadFault, WriteFault, NoMemory, NotBuilt}
+use Rattle.purecap.specs.declared.faults.Failure.TheVariants.{Usage, NoFile, Malformed, Unsupported, Unresolved, Inexact, Full, Limit, ReadFault, WriteFault, NoMemory}
 
 -- the status of the process
 abbrev pub status_of : Failure → ℕ
@@ -21,7 +21,6 @@ status_of (Limit check) = 9
 status_of ReadFault = 10
 status_of WriteFault = 11
 status_of NoMemory = 12
-status_of NotBuilt = 13
 
 -- a line that names a file
 abbrev pub file_line : List ℕ → List ℕ → List ℕ
@@ -61,7 +60,6 @@ line_of path (Limit check) = limit_line check
 line_of path ReadFault = file_line path (codes ": read fault\n")
 line_of path WriteFault = file_line path (codes ": write fault\n")
 line_of path NoMemory = codes "purecap: out of memory\n"
-line_of path NotBuilt = codes "purecap: not built\n"
 
 -- the failure of a start or a call
 abbrev pub failure_of : OpenCause → Failure

@@ -1,13 +1,16 @@
 pub mod Faults
 pub mod WordRules
 pub mod LinkWords
+pub mod DemoWords
 pub mod Words
 pub mod Story
 pub mod Linking
+pub mod Demo
 pub mod Answer
 pub mod Reading
 pub mod Run
 pub mod Printing
 pub mod Calling
 pub mod Inputs
+pub mod Summing
 pub mod Exact

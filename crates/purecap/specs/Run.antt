@@ -7,13 +7,13 @@ use Rattle.cap_mem.specs.Tagged.{TaggedMemory}
 use Rattle.cap_image.specs.Writing.{image_of, image_bytes}
 use Rattle.cap_session.specs.declared.refusal.OpenRefusal.{OpenRefusal}
 use Rattle.purecap.specs.declared.faults.Failure.{Failure}
-use Rattle.purecap.specs.declared.faults.Failure.TheVariants.{Usage, Limit, ReadFault, WriteFault, NoMemory, NotBuilt}
+use Rattle.purecap.specs.declared.faults.Failure.TheVariants.{Usage, Limit, ReadFault, WriteFault, NoMemory}
 use Rattle.purecap.specs.Faults.{failure_of, status_of, line_of}
-use Rattle.purecap.specs.Words.{Command, Show, Load, Link, LoadWords, command_of}
+use Rattle.purecap.specs.Words.{Command, Show, Load, Link, Demo, LoadWords, command_of}
 use Rattle.purecap.specs.LinkWords.{LinkWords}
 use Rattle.purecap.specs.Linking.{Found, found_in, link_story}
 use Rattle.purecap.specs.Story.{Product, Printed, Saved, Stop, stop_at, Story, stopped}
-use Rattle.purecap.specs.Answer.{show_story, load_story, note_lines, lines_before, Answer, answer_to}
+use Rattle.purecap.specs.Answer.{show_story, load_story, demo_story, note_lines, lines_before, Answer, answer_to}
 
 -- a count of faults, before a run and after it
 pub record Count : Type 0 where
@@ -205,11 +205,15 @@ pub record Links (words : LinkWords) (disk : Disk) (out err : Stream) (kept : Li
   pub ends : EndsAs (link_story words found) disk out err kept end
   pub calm : IsCalm disk.reads end
 
+-- how `demo` ends: its number decides, and no file of the store is read
+pub record Demos (number : ℕ) (disk : Disk) (out err : Stream) (kept : List TaggedMemory) (end : Result Unit Failure) : Type 0 where
+  pub ends : EndsAs (demo_story number) disk out err kept end
+  pub reads_kept : IsKept disk.reads
+
 -- a failure of the words alone
 abbrev pub IsOfWords : Failure → Type 0
 IsOfWords Usage = Unit {0}
 IsOfWords (Limit check) = Unit {0}
-IsOfWords NotBuilt = Unit {0}
 IsOfWords failure = ⊥
 
 -- how a run ends whose words are no command: it touches nothing
@@ -223,6 +227,7 @@ abbrev pub Ends : Result Command Failure → Disk → Stream → Stream → List
 Ends (Ok (Show image)) disk out err kept end = Shows image disk out err kept end
 Ends (Ok (Load words)) disk out err kept end = Loads words disk out err kept end
 Ends (Ok (Link words)) disk out err kept end = Links words disk out err kept end
+Ends (Ok (Demo number)) disk out err kept end = Demos number disk out err kept end
 Ends (Err failure) disk out err kept end = Fails failure disk out err kept end
 
 abbrev pub end_status : Result Unit Failure → ℕ
@@ -279,10 +284,12 @@ output_count command disk out = out.faults
 abbrev pub IsPlain : Disk → Stream → List TaggedMemory → ℕ → Type 0
 IsPlain disk err kept status = (kept ≡ []) × (status ≡ 0 → IsStill err) × (status ≡ 12 → IsKept disk.reads)
 
--- `load` and `link` alone write a file, and they print nothing; `load` alone keeps memories and passes over refusals
+-- `load` and `link` alone write a file, and they print nothing; `load` alone keeps memories and passes over refusals;
+-- `demo` reads no file
 abbrev pub IsAside : Result Command Failure → Disk → Stream → Stream → List TaggedMemory → ℕ → Type 0
 IsAside (Ok (Load words)) disk out err kept status = IsStill out
 IsAside (Ok (Link words)) disk out err kept status = IsStill out × IsPlain disk err kept status
+IsAside (Ok (Demo number)) disk out err kept status = IsUntouched disk × IsKept disk.reads × IsPlain disk err kept status
 IsAside command disk out err kept status = IsUntouched disk × IsPlain disk err kept status
 
 -- the causes of the answers, over any store and any sinks
@@ -290,8 +297,6 @@ pub record HasCauses (words : List (List ℕ)) (disk : Disk) (out err : Stream) 
   -- the words alone decide these; memory may run out instead
   pub usage : status ≡ 2 → command_of words ≡ Err Usage
   pub is_usage : command_of words ≡ Err Usage → (status ≡ 2) ⊎ (status ≡ 12)
-  pub not_built : status ≡ 13 → command_of words ≡ Err NotBuilt
-  pub is_not_built : command_of words ≡ Err NotBuilt → (status ≡ 13) ⊎ (status ≡ 12)
   pub is_limit : (check : ℕ) → command_of words ≡ Err (Limit check) → (status ≡ 9) ⊎ (status ≡ 12)
   -- a read fault has its count, and where the count rose it is the answer, or want of memory
   pub read_fault : status ≡ 10 → HasRisen disk.reads

@@ -1,6 +1,6 @@
 -- What the words of the command line ask for. Each command reads its words as `clap` does those of a simple command, and
 -- then come the rules of this program.
-use Rattle.std.specs.Prelude.{◌≡◌, ◌≤◌, ℕ, Bool, true, false, not, ◌&&◌, ◌||◌, ◌==◌, nat_lt, List, [], ◌∷◌, length, map, codes, Some, unwrap_or, Result, Ok, Err, if◌then◌else◌, All, string_bytes}
+use Rattle.std.specs.Prelude.{◌≡◌, ◌<◌, ◌≤◌, ◌^◌, ℕ, Bool, true, false, not, ◌&&◌, ◌||◌, ◌==◌, nat_lt, List, [], ◌∷◌, length, map, codes, Some, unwrap_or, Result, Ok, Err, if◌then◌else◌, All, string_bytes}
 use Rattle.std.specs.List.{list_any, before_first, after_first}
 use Rattle.std.specs.Str.{bytes_eq}
 use Rattle.clap.specs.Lexer.{usize_max}
@@ -20,13 +20,14 @@ use Rattle.cap_session.specs.declared.form.Form.TheVariants as forms
 use Rattle.cap_session.specs.Calls.{Call}
 use Rattle.cap_session.specs.Mappings.{IsName}
 use Rattle.purecap.specs.declared.faults.Failure.{Failure}
-use Rattle.purecap.specs.declared.faults.Failure.TheVariants.{Usage, Limit, NoMemory, NotBuilt}
+use Rattle.purecap.specs.declared.faults.Failure.TheVariants.{Usage, Limit, NoMemory}
 use Rattle.purecap.specs.declared.words.Command.{Command as Given}
 use Rattle.purecap.specs.declared.words.Command.TheVariants as given
 use Rattle.purecap.specs.declared.words.LoadWords.{LoadWords as GivenLoad}
 use Rattle.purecap.specs.declared.words.CallWord.{CallWord}
 use Rattle.purecap.specs.WordRules.{operand, last_operands, required_option, option_or, flag, parsed, value_of, values_of, refuse, has_slash, is_long, is_name, is_path, too_long}
 use Rattle.purecap.specs.LinkWords.{LinkWords, IsLink, link_meant, link_words}
+use Rattle.purecap.specs.DemoWords.{demo_words}
 
 -- what `load` is asked for
 pub record LoadWords : Type 0 where
@@ -41,6 +42,7 @@ pub data Command : Type 0 where
   Show : List ℕ → Command
   Load : LoadWords → Command
   Link : LinkWords → Command
+  Demo : ℕ → Command
 
 -- ---- the command lines
 
@@ -127,7 +129,7 @@ command_by command words =
     if bytes_eq command (codes "show") then show_words words
     else (if bytes_eq command (codes "load") then load_words words
     else (if bytes_eq command (codes "link") then (link_words words >>= λ asked. Ok (Link asked))
-    else (if bytes_eq command (codes "demo") then Err NotBuilt
+    else (if bytes_eq command (codes "demo") then (demo_words words >>= λ number. Ok (Demo number))
     else Err Usage)))
 
 -- what the words ask for: the first names the command, and stands for the program's name before the others
@@ -153,6 +155,7 @@ abbrev pub meaning : Given → Command
 meaning (given.Show image) = Show (string_bytes image)
 meaning (given.Load words) = Load (load_meant words)
 meaning (given.Link words) = Link (link_meant words)
+meaning (given.Demo number) = Demo number
 
 -- ---- what holds of each command that is accepted
 
@@ -171,3 +174,4 @@ abbrev pub IsAccepted : Command → Type 0
 IsAccepted (Show image) = IsName image
 IsAccepted (Load asked) = IsLoad asked
 IsAccepted (Link asked) = IsLink asked
+IsAccepted (Demo number) = number < 2 ^ 32

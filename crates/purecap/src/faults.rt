@@ -34,8 +34,6 @@ pub enum Failure {
     WriteFault,
     /// There was not enough memory.
     NoMemory,
-    /// The command is not built yet.
-    NotBuilt,
 }
 
 impl Failure {
@@ -55,7 +53,6 @@ impl Failure {
             Failure::ReadFault => 10,
             Failure::WriteFault => 11,
             Failure::NoMemory => 12,
-            Failure::NotBuilt => 13,
         }
     }
 
@@ -81,7 +78,6 @@ impl Failure {
             Failure::ReadFault => tell_file(err, path, b": read fault\n"),
             Failure::WriteFault => tell_file(err, path, b": write fault\n"),
             Failure::NoMemory => send(err, b"purecap: out of memory\n"),
-            Failure::NotBuilt => send(err, b"purecap: not built\n"),
         }
     }
 
@@ -218,7 +214,7 @@ fn write_hex(n: u64, buf: &mut [u8; 16]) -> usize
 }
 
 // The digit of a number below 16.
-fn hex_digit(n: u64) -> u8
+pub(crate) fn hex_digit(n: u64) -> u8
     requires { n < 16 }
     ensures { result ≡ digit_glyph false n }
 {

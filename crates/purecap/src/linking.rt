@@ -24,9 +24,9 @@ const MOST_BYTES: u64 = 1 << 27;
 
 // Why a link stops, and the file that its line names.
 #[derive(Drop)]
-struct Stop<'w> {
-    path: &'w str,
-    failure: Failure,
+pub(crate) struct Stop<'w> {
+    pub(crate) path: &'w str,
+    pub(crate) failure: Failure,
 }
 
 impl<'w> Model for Stop<'w> {
@@ -189,7 +189,11 @@ fn add_input<'w>(
 }
 
 // Links these inputs.
-fn link_inputs<'w>(alloc: Global, words: &'w LinkWords, inputs: Inputs) -> Result<Vec<u8>, Stop<'w>>
+pub(crate) fn link_inputs<'w>(
+    alloc: Global,
+    words: &'w LinkWords,
+    inputs: Inputs,
+) -> Result<Vec<u8>, Stop<'w>>
     requires { IsLink (link_meant words.now) }
     ensures { Makes (λ bytes. Saved (string_bytes words.now.output) bytes.items []) (linked (link_meant words.now) inputs) result }
 {

@@ -229,7 +229,7 @@ fn write_image<F: Files, E: Sink>(
 }
 
 // The bytes of the image of a session.
-fn image_bytes_of(alloc: Global, session: &Session) -> Result<Vec<u8>, NoMemory>
+pub(crate) fn image_bytes_of(alloc: Global, session: &Session) -> Result<Vec<u8>, NoMemory>
     requires { IsSession session.now }
     ensures { IfOk result (λ bytes. bytes.items ≡ image_bytes (image_of session.now.names session.now.symbols session.now.memories)) }
 {

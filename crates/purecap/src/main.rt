@@ -5,7 +5,7 @@
 //! its words and files, and only a counted fault of the outside or want of memory stands in the place of it.
 //!
 //! - `given` takes the words from the system, and `words` says what they ask for; then each command has a function of
-//!   its own: `show` in `showing`, `load` in `loading`, `link` in `linking`. What is hard about `load` is that the
+//!   its own: `show` in `showing`, `load` in `loading`, `link` in `linking`, `demo` in `demo` and `summary`. What is hard about `load` is that the
 //!   refusals of calls may be passed over: each has its line at once, and all calls speak of the same files, since no
 //!   call changes the store.
 //! - `faults` has the status and the line of each failure. A line is written without memory.
@@ -15,6 +15,7 @@
 //! It knows no format: images stand in `cap_image`, sessions in `cap_session`, and the linker in `cap_link`.
 #![tactic(auto)]
 
+mod demo;
 mod disk;
 mod faults;
 mod given;
@@ -25,6 +26,7 @@ mod objects;
 mod running;
 mod saving;
 mod showing;
+mod summary;
 #[cfg(test)]
 mod tests;
 mod words;

@@ -6,6 +6,7 @@ ghost use Rattle.purecap.specs.Exact.{IsExactRun};
 ghost use Rattle.purecap.specs.Printing.{shown_path as shown_path_in};
 ghost use Rattle.purecap.specs.Run.{counted, streamed, stored, Disk, IsUntouched, IsKept, Runs, Answers, HasCauses, Ends, Shows, end_status as status_of_end};
 
+use crate::demo::demo;
 use crate::faults::Failure;
 use crate::linking::link;
 use crate::loading::load;
@@ -116,6 +117,7 @@ fn act<F: Files, O: Sink, E: Sink>(
         Ok(Command::Show { image }) => show_told(alloc, image.as_str(), files, out, err),
         Ok(Command::Load(words)) => load(alloc, &words, files, err, kept),
         Ok(Command::Link(words)) => link(alloc, &words, files, err),
+        Ok(Command::Demo { number }) => demo(alloc, number, out, err),
         Err(failure) => {
             let _ = failure.tell(err, b"");
             Err(failure)

@@ -37,7 +37,7 @@ pub fn show<F: Files, O: Sink>(
 }
 
 // Writes these bytes to standard output. It takes no memory.
-fn write_output<O: Sink>(out: &mut O, bytes: &[u8]) -> Result<(), Failure>
+pub(crate) fn write_output<O: Sink>(out: &mut O, bytes: &[u8]) -> Result<(), Failure>
     ensures { Outputs (streamed (O.told out.old) (O.told out.new) (O.faults out.old) (O.faults out.new)) bytes.now result }
 {
     match send(out, bytes) {

@@ -9,11 +9,13 @@ ghost use Rattle.purecap.specs.declared.faults.Failure.TheVariants.{NoMemory};
 ghost use Rattle.purecap.specs.WordRules.{Meant, has_slash as has_slash_in, is_long as is_long_text, is_name as is_name_text, is_path as is_path_text, operand as operand_in, last_operands as last_operands_in, required_option as required_option_in, option_or as option_or_in, flag as flag_in, parsed, refuse as refuse_of, value_of as value_in, values_of as values_in};
 ghost use Rattle.purecap.specs.Words.{IsAccepted, call_meant, call_of as call_in, command_of as command_in, form_of as form_in, load_app, load_meant, load_of as load_in, load_words as load_words_in, meaning, rule_of as rule_in, show_app, show_of as show_in, show_words as show_words_in};
 
+mod demo;
 pub(crate) mod link;
 #[cfg(test)]
 mod tests;
 
 use crate::faults::Failure;
+use crate::words::demo::demo_number;
 use crate::words::link::{LinkWords, link_words};
 use cap_base::{Check, Words, is_plain};
 use cap_scope::Rule;
@@ -35,6 +37,8 @@ pub enum Command {
     Load(LoadWords),
     /// The file that is linked from others.
     Link(LinkWords),
+    /// The summary of the objects that are made from this number.
+    Demo { number: u32 },
 }
 
 /// What `load` is asked for. Paths have 1 to 255 printable ASCII characters.
@@ -62,7 +66,7 @@ pub struct CallWord {
 /// What the words ask for.
 ///
 /// `Usage` are words that the command does not take, a call for help too, and words of another form; `Limit` a path or
-/// a name of more than 255 bytes, more than 64 calls, or more than 256 files to link; `NotBuilt` a command that is still to come.
+/// a name of more than 255 bytes, more than 64 calls, or more than 256 files to link.
 pub fn command_of(alloc: Global, words: &Words) -> Result<Command, Failure>
     ensures meaning { Meant meaning result (command_in words.now) }
     ensures accepted { IfOk result (λ command. IsAccepted (meaning command)) }
@@ -89,7 +93,9 @@ fn named_command(alloc: Global, words: &Words) -> Result<Command, Failure>
         return Ok(Command::Link(link_words(alloc, words)?));
     }
     if command == "demo" {
-        return Err(Failure::NotBuilt);
+        return Ok(Command::Demo {
+            number: demo_number(alloc, words)?,
+        });
     }
     Err(Failure::Usage)
 }

@@ -163,7 +163,7 @@ fn inputs_of(alloc: Global, matches: &ArgMatches<'_>) -> Result<Vec<String>, Fai
 }
 
 // Copies of these words.
-fn owned(alloc: Global, words: &[&str]) -> Result<Vec<String>, Failure>
+pub(crate) fn owned(alloc: Global, words: &[&str]) -> Result<Vec<String>, Failure>
     ensures { Meant (λ inputs. map string_bytes inputs.items) result (Ok (map (λ word. word.now) words.now)) }
 {
     let mut inputs = Vec::new(alloc);

@@ -6,12 +6,13 @@ use crate::faults::Failure;
 use cap_base::{NoMemory, Words, check_text};
 use cap_scope::Rule;
 use cap_session::Form;
+use itoa::Buffer;
 use std::alloc::Global;
 use std::process::Abort;
 use std::test::Fail;
 
 // Words with a bar between two of them, and what they ask for.
-const ROWS: [(&str, &str); 78] = [
+const ROWS: [(&str, &str); 85] = [
     ("show|i", "show i"),
     ("show", "usage"),
     ("show|i|i", "usage"),
@@ -94,7 +95,14 @@ const ROWS: [(&str, &str); 78] = [
     ("link|-o|a|a.o|", "usage"),
     ("link|-o|a|a\u{7f}", "usage"),
     ("link|-o|a|-L|b|a.o", "usage"),
-    ("demo|1", "not built"),
+    ("demo", "usage"),
+    ("demo|0", "demo 0"),
+    ("demo|4294967295", "demo 4294967295"),
+    ("demo|4294967296", "usage"),
+    ("demo|01", "usage"),
+    ("demo|+1", "usage"),
+    ("demo|", "usage"),
+    ("demo|1|2", "usage"),
     ("-", "usage"),
     ("--help", "usage"),
     ("help", "usage"),
@@ -112,7 +120,6 @@ fn said(alloc: Global, asked: &Result<Command, Failure>) -> Result<String, NoMem
 fn said_failure(alloc: Global, failure: &Failure) -> Result<String, NoMemory> {
     match failure {
         Failure::Usage => joined(alloc, "usage", ""),
-        Failure::NotBuilt => joined(alloc, "not built", ""),
         Failure::Limit { check } => joined(alloc, "limit ", check_text(*check)),
         _ => joined(alloc, "another failure", ""),
     }
@@ -123,7 +130,13 @@ fn said_command(alloc: Global, command: &Command) -> Result<String, NoMemory> {
         Command::Show { image } => joined(alloc, "show ", image.as_str()),
         Command::Load(words) => said_load(alloc, words),
         Command::Link(words) => said_link(alloc, words),
+        Command::Demo { number } => said_demo(alloc, *number),
     }
+}
+
+fn said_demo(alloc: Global, number: u32) -> Result<String, NoMemory> {
+    let mut buffer = Buffer::new();
+    joined(alloc, "demo ", buffer.format(number))
 }
 
 fn said_load(alloc: Global, words: &LoadWords) -> Result<String, NoMemory> {

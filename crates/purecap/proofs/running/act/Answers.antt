@@ -11,6 +11,10 @@ pub returns-in-Ok-Link : goal.returns-in-Ok-Link
 returns-in-Ok-Link g c =
     rw ((c.in-Ok-Link.ensures {u = tt}).meaning, c.in-Ok-Link.field-0-is, c.requires) (c.link.ensures _ (record { bytes = refl; count = refl }))
 
+pub returns-in-Ok-Demo : goal.returns-in-Ok-Demo
+returns-in-Ok-Demo g c =
+    rw ((c.in-Ok-Demo.ensures {u = tt}).meaning, c.in-Ok-Demo.field-0-is, c.requires) (c.demo.ensures _ (record { files = refl; writing = refl; count = refl }) refl)
+
 pub returns-in-Err : goal.returns-in-Err
 returns-in-Err g c =
     let failed = c.in-Err.ensures {u = tt} in

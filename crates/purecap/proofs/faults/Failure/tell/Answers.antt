@@ -17,6 +17,3 @@ returns-in-WriteFault g c = rw c.in-WriteFault.is c.tell_file-in-WriteFault.ensu
 
 pub returns-in-NoMemory : goal.returns-in-NoMemory
 returns-in-NoMemory g c = rw c.in-NoMemory.is c.send-in-NoMemory.ensures
-
-pub returns-in-NotBuilt : goal.returns-in-NotBuilt
-returns-in-NotBuilt g c = rw c.in-NotBuilt.is c.send-in-NotBuilt.ensures
