@@ -96,11 +96,16 @@ object_addresses o = map (address_at o) (tagged_granules o)
 abbrev pub word_addresses : ImageParts → List ℕ
 word_addresses image = flat_map object_addresses image.objects
 
--- the number, the last line of the report, and how many bytes the image has, with a sum
+unfoldable pub number_line : ℕ → List ℕ
+number_line number = codes "demo " ++ decimal number ++ codes "\n"
+
+-- how many bytes an image has, with a sum
+unfoldable pub image_line : ℕ → ℕ → List ℕ
+image_line size total = codes "image " ++ decimal size ++ codes " sum 0x" ++ hex 16 total ++ codes "\n"
+
+-- the number, the last line of the report, and the line of the image
 unfoldable pub summary_lines : ℕ → List ℕ → ℕ → ℕ → List ℕ
-summary_lines number report_end size total =
-    codes "demo " ++ decimal number ++ codes "\n" ++ report_end
-    ++ codes "image " ++ decimal size ++ codes " sum 0x" ++ hex 16 total ++ codes "\n"
+summary_lines number report_end size total = number_line number ++ report_end ++ image_line size total
 
 unfoldable pub summary_of : ℕ → ImageParts → List ℕ
 summary_of number image =

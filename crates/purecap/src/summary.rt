@@ -1,8 +1,9 @@
 //! The summary of a session.
 
 ghost use Rattle.std.specs.Prelude.{◌≡◌, ◌++◌, ◌+◌, ◌*◌, ◌%◌, ◌^◌, ◌≤◌, All, IfOk, OnOk, length, flat_map, sum, decimal};
-ghost use Rattle.cap_image.specs.Report.{hex};
+ghost use Rattle.cap_image.specs.Report.{hex, last_line};
 ghost use Rattle.cap_session.specs.Session.{IsSession};
+ghost use Rattle.purecap.specs.Demo.{image_line, number_line};
 ghost use Rattle.purecap.specs.Summing.{address_if, memory_addresses, ArePages, session_summary, summary_text as summary_text_of};
 
 use crate::faults::hex_digit;
@@ -27,30 +28,55 @@ pub fn summary(alloc: Global, number: u32, session: &Session) -> Result<Vec<u8>,
         number,
         session.memories().len(),
         &addresses,
-        image.len(),
+        &image,
     )
 }
 
-// The summary: how many objects there are, the addresses of the tagged words, and how many bytes the image has.
-#[tactic(auto, unfolding(crate::specs::Summing::summary_text))]
+// The summary: how many objects there are, the addresses of the tagged words, and the bytes of the image.
+#[tactic(auto, unfolding(crate::specs::Summing::summary_text, crate::specs::Demo::summary_lines))]
 fn summary_text(
     alloc: Global,
     number: u32,
     objects: usize,
     addresses: &[u64],
-    size: usize,
+    image: &[u8],
 ) -> Result<Vec<u8>, NoMemory>
-    ensures { IfOk result (λ text. text.items ≡ summary_text_of number objects addresses.now size) }
+    ensures { IfOk result (λ text. text.items ≡ summary_text_of number objects addresses.now (length image.now)) }
 {
     let mut text = Vec::new(alloc);
-    push_decimal(&mut text, b"demo ", u64::from(number))?;
-    push_decimal(&mut text, b"\nobjects ", objects as u64)?;
-    push_decimal(&mut text, b" words ", addresses.len() as u64)?;
-    push_decimal(&mut text, b"\nimage ", size as u64)?;
-    text.extend_from_slice(b" sum 0x")?;
-    push_hex(&mut text, wrapped_sum(addresses), 16)?;
-    text.extend_from_slice(b"\n")?;
+    push_number_line(&mut text, number)?;
+    push_count_line(&mut text, objects, addresses.len())?;
+    push_image_line(&mut text, image.len(), wrapped_sum(addresses))?;
     Ok(text)
+}
+
+#[tactic(auto, unfolding(crate::specs::Demo::number_line))]
+fn push_number_line(text: &mut Vec<u8>, number: u32) -> Result<(), NoMemory>
+    ensures { OnOk result (text.new.items ≡ text.old.items ++ number_line number) }
+{
+    push_decimal(text, b"demo ", u64::from(number))?;
+    text.extend_from_slice(b"\n")?;
+    Ok(())
+}
+
+fn push_count_line(text: &mut Vec<u8>, objects: usize, words: usize) -> Result<(), NoMemory>
+    ensures { OnOk result (text.new.items ≡ text.old.items ++ last_line objects words) }
+{
+    push_decimal(text, b"objects ", objects as u64)?;
+    push_decimal(text, b" words ", words as u64)?;
+    text.extend_from_slice(b"\n")?;
+    Ok(())
+}
+
+#[tactic(auto, unfolding(crate::specs::Demo::image_line))]
+fn push_image_line(text: &mut Vec<u8>, size: usize, total: u64) -> Result<(), NoMemory>
+    ensures { OnOk result (text.new.items ≡ text.old.items ++ image_line size total) }
+{
+    push_decimal(text, b"image ", size as u64)?;
+    text.extend_from_slice(b" sum 0x")?;
+    push_hex(text, total, 16)?;
+    text.extend_from_slice(b"\n")?;
+    Ok(())
 }
 
 // Appends a word, and a number in base 10.
