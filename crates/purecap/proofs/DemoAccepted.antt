@@ -75,9 +75,9 @@ module _ (word : Text) (is : is_numeral word ≡ true) where
   unfolding number_in
   decided r parses = parse_digits (numerals_by_value (λ ds. all_ascii_digits ds ≡ true) tells_all_ascii_digits) 32 word r parses (digits_of word is).1
 
-  pub numeral_read : (E : Type 0) (number : ℕ) → ParsesUnsigned {E = E} 32 10 word (Ok number) → number_of word ≡ Ok number
-  numeral_read E number parses =
-      let d : ((0 < length word) × (number_in word < 2 ^ 32)) × (number ≡ number_in word) = decided {E = E} (Ok number) parses in
+  pub numeral_read : {E : Type 0} (r : Result ℕ E) (number : ℕ) → r ≡ Ok number → ParsesUnsigned 32 10 word r → number_of word ≡ Ok number
+  numeral_read {E} r number same parses =
+      let d : ((0 < length word) × (number_in word < 2 ^ 32)) × (number ≡ number_in word) = subst (λ (q : Result ℕ E). OkIff q ((0 < length word) × (number_in word < 2 ^ 32)) (number_in word)) same (decided r parses) in
       let less : number_in word < 2 ^ 32 = d.0.1 in
       let small : nat_le (2 ^ 32) (number_in word) ≡ false = grind (arith, nat_tests, less) in
       by_size false small ∙ ap accept (sym d.1)
