@@ -1,6 +1,6 @@
 -- What holds of the words that are accepted, and why the others are refused.
 use Rattle.std.proofs.Common.{◌≡◌, Bool, true, false, cond, not, nat_lt, List, [], ◌∷◌, length, codes, Result, Ok, Err, IfOk, refl, sym, ap, subst, arith}
-use Rattle.std.specs.Prelude.{All, ◌==◌, ◌||◌}
+use Rattle.std.specs.Prelude.{All, ◌==◌}
 use Rattle.std.specs.List.{before_first, after_first}
 use Rattle.std.specs.Str.{bytes_eq}
 use Rattle.std.proofs.lemmas.Bool.{not-false, or_parts}
@@ -10,10 +10,8 @@ use Rattle.clap.proofs.WalkLemmas.{both}
 use Rattle.clap.specs.Walk.{Text}
 use Rattle.cap_base.specs.Check.{number_of}
 use Rattle.cap_base.specs.Steps.{◌>>=◌, ◌>>◌, gather}
-use Rattle.cap_base.specs.Text.{is_plain}
 use Rattle.cap_base.specs.declared.check.Check.TheVariants.{CallCount}
 use Rattle.cap_session.specs.Calls.{Call}
-use Rattle.cap_session.specs.Mappings.{IsName}
 use Rattle.purecap.specs.declared.faults.Failure.{Failure}
 use Rattle.purecap.specs.declared.faults.Failure.TheVariants.{Usage, Limit}
 use Rattle.purecap.specs.declared.words.Command.{Command as Given}

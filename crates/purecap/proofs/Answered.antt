@@ -8,7 +8,7 @@ use Rattle.purecap.specs.declared.faults.Failure.{Failure}
 use Rattle.purecap.specs.declared.faults.Failure.TheVariants.{WriteFault}
 use Rattle.purecap.specs.Linking.{Found, found_in, link_story}
 use Rattle.purecap.specs.Words.{Command, Show, Load, Link, Demo, command_of}
-use Rattle.purecap.specs.Story.{stopped, Product, Printed, Saved, Stop, stop_at, Story}
+use Rattle.purecap.specs.Story.{stopped, Product, Printed, Saved, Stop, Story}
 use Rattle.purecap.specs.Answer.{show_story, demo_story, command_story, answer_by, answer_of, answer_to}
 use Rattle.purecap.specs.Run.{Stream, Disk, IsStill, IsWritten, IsGiven, IsGivenPart, EndsAs, HasRisen, Ends, end_status, Runs, Gave, IsHalf, Answers, target_of, Says}
 use Rattle.purecap.specs.Answer as answer

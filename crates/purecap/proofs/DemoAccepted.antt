@@ -1,22 +1,21 @@
 -- What holds of the number of `demo`, and why other words are refused.
-use Rattle.std.proofs.Common.{◌≡◌, ℕ, ◌^◌, ◌<◌, ◌≤◌, Bool, true, false, not, nat_lt, List, [], ◌∷◌, length, codes, Result, Ok, Err, refl, sym, ap, subst, ◌∙◌, arith}
+use Rattle.std.proofs.Common.{◌≡◌, ℕ, ◌^◌, ◌<◌, Bool, true, false, not, nat_lt, List, [], ◌∷◌, length, codes, Result, Ok, Err, refl, sym, ap, subst, ◌∙◌, arith}
 use Rattle.std.specs.Prelude.{◌&&◌, nat_le}
 use Rattle.std.specs.Char.{is_ascii_digit}
 use Rattle.std.specs.List.{list_all}
 use Rattle.std.specs.Result.{OkIff}
 use Rattle.std.specs.Str.{all_ascii_digits}
-use Rattle.std.specs.Str.Parse.{ParsesUnsigned, digits_value}
-use Rattle.std.proofs.lemmas.Bool.{not-false}
+use Rattle.std.specs.Str.Parse.{ParsesUnsigned}
 use Rattle.std.proofs.lemmas.Bool.Decides.{nat_tests}
 use Rattle.std.proofs.lemmas.Str.Parse.{parse_digits, numerals_by_value, tells_all_ascii_digits}
 use Rattle.clap.proofs.OnLiterals.{clap_on_literals}
 use Rattle.clap.proofs.WalkLemmas.{both}
 use Rattle.clap.specs.Walk.{Text}
 use Rattle.clap.specs.Words.{is_simple_and_free}
-use Rattle.cap_base.specs.Steps.{◌>>=◌, ◌>>◌}
+use Rattle.cap_base.specs.Steps.{◌>>◌}
 use Rattle.purecap.specs.declared.faults.Failure.{Failure}
 use Rattle.purecap.specs.declared.faults.Failure.TheVariants.{Usage}
-use Rattle.purecap.specs.WordRules.{Meant, parsed, refuse, value_of}
+use Rattle.purecap.specs.WordRules.{parsed, refuse, value_of}
 use Rattle.purecap.specs.DemoWords.{demo_app, demo_words, has_digits, has_leading_zero, is_numeral, number_in, number_of}
 use Rattle.purecap.proofs.Passing.{bind_passed, then_passed, refuse_passed}
 

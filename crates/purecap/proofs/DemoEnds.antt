@@ -1,5 +1,5 @@
 -- How `demo` ends, from what its steps give.
-use Rattle.std.proofs.Common.{◌≡◌, ℕ, Bool, true, false, List, [], ◌∷◌, ◌++◌, codes, Option, Some, None, Result, Ok, Err, refl, sym, ap, subst, ◌∙◌, arith}
+use Rattle.std.proofs.Common.{◌≡◌, ℕ, Bool, true, false, List, [], ◌∷◌, ◌++◌, codes, Option, Some, None, Result, Ok, Err, refl, sym, ap, subst, arith}
 use Rattle.cap_base.specs.Outside.{Store}
 use Rattle.cap_base.specs.Steps.{◌>>=◌}
 use Rattle.cap_base.specs.declared.refusal.Refusal.{Refusal}
@@ -17,9 +17,9 @@ use Rattle.purecap.specs.declared.faults.Failure.TheVariants.{Usage, NoFile, Mal
 use Rattle.purecap.specs.Faults.{line_of}
 use Rattle.purecap.specs.LinkWords.{LinkWords}
 use Rattle.purecap.specs.Linking.{kind_of, link_failure, linked, linked_by}
-use Rattle.purecap.specs.Story.{Product, Printed, Saved, Stop, stop_at, Story}
+use Rattle.purecap.specs.Story.{Product, Printed, Stop, stop_at}
 use Rattle.purecap.specs.Answer.{demo_story, demo_text, state_image, summed}
-use Rattle.purecap.specs.Demo.{demo_failure, demo_linked, demo_objects, demo_opened, demo_started, demo_store, link_for, linked_bytes, linked_parts, or_stop, product_bytes, summary_of}
+use Rattle.purecap.specs.Demo.{demo_failure, demo_linked, demo_opened, demo_started, demo_store, link_for, linked_bytes, linked_parts, or_stop, product_bytes, summary_of}
 use Rattle.purecap.specs.Run.{Stream, Disk, IsStill, IsKept, IsUntouched, IsNothing, EndsAs, Says, Demos}
 use Rattle.purecap.specs.Summing.{Halts, PrintsTold, Tells}
 use Rattle.purecap.proofs.Ways.{of_no_file}

@@ -1,11 +1,10 @@
 -- The objects of a demonstration in their parts, and the words of their links.
-use Rattle.std.proofs.Common.{◌≡◌, ℕ, ◌+◌, Bool, true, false, List, [], ◌∷◌, codes, Some, None, take, drop, not, refl, sym, ap, subst, arith}
-use Rattle.std.specs.Prelude.{◌&&◌}
+use Rattle.std.proofs.Common.{◌≡◌, ℕ, Bool, true, false, List, [], ◌∷◌, codes, Some, None, take, drop, not, refl, arith}
 use Rattle.clap.proofs.WalkLemmas.{both}
 use Rattle.cap_demo.specs.Objects.{demo_files, objects_from}
 use Rattle.cap_link.specs.Linked.{IsInputName}
 use Rattle.purecap.specs.Demo.{demo_objects}
-use Rattle.purecap.specs.LinkWords.{LinkWords, IsLink}
+use Rattle.purecap.specs.LinkWords.{IsLink}
 use Rattle.purecap.specs.Summing.{after_three, is_input, three_objects, two_objects}
 use Rattle.purecap.specs.WordRules.{is_long, is_path}
 use Rattle.purecap.proofs.LinkAccepted.{input_name, paths_passed}

@@ -1,5 +1,5 @@
 -- How the steps of `demo` go, from what the linker and the session give.
-use Rattle.std.proofs.Common.{◌≡◌, ℕ, ◌+◌, ◌%◌, ◌^◌, ◌<◌, ◌≤◌, IsTrue, Bool, true, false, List, [], ◌∷◌, ◌++◌, length, map, codes, Option, Result, Ok, Err, refl, sym, ap, subst, ◌∙◌, arith}
+use Rattle.std.proofs.Common.{◌≡◌, ℕ, ◌+◌, ◌%◌, ◌^◌, ◌≤◌, IsTrue, false, List, [], ◌∷◌, length, map, codes, Result, Ok, Err, refl, sym, ap, subst, ◌∙◌, arith}
 use Rattle.std.specs.Prelude.{All, sum}
 use Rattle.std.specs.Int.{is_power_of_two}
 use Rattle.std.specs.List.{AllZip, flat_map}
@@ -12,18 +12,18 @@ use Rattle.cap_mem.specs.Tagged.{TaggedMemory}
 use Rattle.cap_map.proofs.Pages.{multiple_pages}
 use Rattle.cap_image.specs.ImageLaws.{ObjectsAreOfMemories, TagsAreOfMemories}
 use Rattle.cap_image.specs.Report.{last_line}
-use Rattle.cap_image.specs.Writing.{image_of, image_bytes, objects_of, CanBeWritten}
+use Rattle.cap_image.specs.Writing.{image_of, image_bytes, objects_of}
 use Rattle.cap_scope.specs.declared.choice.Rule.TheVariants.{NonWeak}
 use Rattle.cap_session.specs.declared.refusal.OpenCause.{OpenCause}
 use Rattle.cap_session.specs.declared.refusal.OpenCause.TheVariants as causes
 use Rattle.cap_session.specs.declared.refusal.OpenRefusal.{OpenRefusal}
 use Rattle.cap_session.specs.declared.refusal.Mode.TheVariants.{Global}
 use Rattle.cap_session.specs.declared.refusal.Ready.{Ready}
-use Rattle.cap_session.specs.Endings.{Reaches, Starts, Opens}
+use Rattle.cap_session.specs.Endings.{Starts, Opens}
 use Rattle.cap_session.specs.Loading.{fetch_from}
 use Rattle.cap_session.specs.Mappings.{IsMappingOf, IsMemoryOf}
 use Rattle.cap_session.specs.Refused.{IsRefusedBy}
-use Rattle.cap_session.specs.Session.{SessionValue, IsSession, StandsFor, all_records}
+use Rattle.cap_session.specs.Session.{SessionValue, IsSession, all_records}
 use Rattle.cap_session.specs.State.{State, started, opened}
 use Rattle.purecap.specs.declared.demo.Halt.{Halt}
 use Rattle.purecap.specs.declared.demo.Halt.TheVariants as halts
@@ -35,9 +35,9 @@ use Rattle.purecap.specs.Linking.{linked}
 use Rattle.purecap.specs.Story.{Product, Saved, Stop, stop_at}
 use Rattle.purecap.specs.Answer.{demo_text, state_image}
 use Rattle.purecap.specs.Demo.{demo_linked, demo_opened, demo_started, link_for, linked_bytes, or_stop, product_bytes, summary_lines, summary_of, word_addresses}
-use Rattle.purecap.specs.Inputs.{StopsAs, Takes, Makes}
-use Rattle.purecap.specs.Run.{Count, counted}
-use Rattle.purecap.specs.Summing.{is_lost, is_starved, memory_addresses, session_summary, summary_after, summary_text, ArePages, Begins, Gives, Halts, HaltsAs, HaltsBy, IsStarted}
+use Rattle.purecap.specs.Inputs.{StopsAs, Makes}
+use Rattle.purecap.specs.Run.{counted}
+use Rattle.purecap.specs.Summing.{is_lost, is_starved, memory_addresses, session_summary, summary_after, summary_text, ArePages, Begins, Halts, HaltsAs, HaltsBy, IsStarted}
 use Rattle.purecap.proofs.Coming.{image_is}
 use Rattle.purecap.proofs.WordSums.{image_addresses, words_counted, objects_count}
 use Rattle.purecap.proofs.Written.{can_be_written}

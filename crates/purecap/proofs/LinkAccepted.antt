@@ -1,8 +1,8 @@
 -- What holds of the words of `link` that are accepted.
-use Rattle.std.proofs.Common.{Global, ◌≡◌, ℕ, ◌<◌, ◌≤◌, ◌≢◌, Bool, true, false, not, nat_lt, List, [], ◌∷◌, length, codes, Option, Some, None, Result, Ok, Err, refl, sym, ap, subst, ◌∙◌, arith}
-use Rattle.std.specs.Prelude.{All, IfSome, ◌||◌, ◌&&◌, nat_le, option_map, map, String}
+use Rattle.std.proofs.Common.{Global, ◌≡◌, ℕ, ◌≢◌, Bool, true, false, not, nat_lt, List, [], ◌∷◌, length, Option, Some, None, Result, Ok, refl, sym, subst, arith}
+use Rattle.std.specs.Prelude.{All, IfSome, nat_le, map, String}
 use Rattle.std.specs.String.{string_bytes}
-use Rattle.std.specs.List.{list_any, list_all}
+use Rattle.std.specs.List.{list_any}
 use Rattle.std.specs.Option.{option_map_or}
 use Rattle.std.proofs.lemmas.Bool.{not-false, or_parts}
 use Rattle.std.proofs.lemmas.Bool.Decides.{nat_tests}
@@ -10,7 +10,7 @@ use Rattle.std.proofs.lemmas.List.Elements.{All-nil, All-cons, All-head, All-tai
 use Rattle.clap.proofs.WalkLemmas.{both}
 use Rattle.clap.specs.Walk.{Text}
 use Rattle.cap_base.specs.Check.{number_of}
-use Rattle.cap_base.specs.Steps.{◌>>=◌, ◌>>◌}
+use Rattle.cap_base.specs.Steps.{◌>>◌}
 use Rattle.cap_base.specs.Text.{is_plain, is_plain_byte}
 use Rattle.cap_base.specs.declared.check.Check.TheVariants.{CallCount}
 use Rattle.cap_base.specs.declared.kind.Kind.{Kind}

@@ -1,5 +1,5 @@
 -- How `link` ends, from what its steps give.
-use Rattle.std.proofs.Common.{◌≡◌, ℕ, Bool, true, false, cond, List, [], ◌∷◌, ◌++◌, Option, Some, None, Result, Ok, Err, refl, sym, ap, subst, ◌∙◌, arith}
+use Rattle.std.proofs.Common.{◌≡◌, ℕ, Bool, true, false, cond, List, [], ◌∷◌, ◌++◌, Option, Some, None, Result, Ok, Err, refl, sym, subst, arith}
 use Rattle.cap_base.specs.Check.{number_of}
 use Rattle.cap_base.specs.Outside.{Store}
 use Rattle.cap_base.specs.Steps.{◌>>=◌, steps}
@@ -12,8 +12,8 @@ use Rattle.purecap.specs.declared.faults.Failure.{Failure}
 use Rattle.purecap.specs.declared.faults.Failure.TheVariants.{Usage, NoFile, Malformed, Unsupported, Unresolved, Inexact, Full, Limit, ReadFault, WriteFault, NoMemory}
 use Rattle.purecap.specs.Faults.{line_of}
 use Rattle.purecap.specs.LinkWords.{LinkWords}
-use Rattle.purecap.specs.Story.{Product, Printed, Saved, Stop, stop_at, Story}
-use Rattle.purecap.specs.Linking.{Found, input_of, with_input, input_step, inputs_of, size_of, kind_of, link_failure, refused_path, linked_by, linked, link_end, link_story}
+use Rattle.purecap.specs.Story.{Product, Printed, Saved, Stop, stop_at}
+use Rattle.purecap.specs.Linking.{Found, input_of, with_input, input_step, inputs_of, kind_of, link_failure, linked_by, linked, link_end, link_story}
 use Rattle.purecap.specs.Run.{Count, counted, Stream, streamed, Disk, stored, IsStill, IsKept, IsUntouched, IsNothing, EndsAs, Says, Links}
 use Rattle.purecap.specs.Calling.{SavesFile}
 use Rattle.purecap.specs.Inputs.{StopsAs, LinksFiles}

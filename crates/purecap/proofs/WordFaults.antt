@@ -1,6 +1,6 @@
 -- How words are refused: as no command, or at a limit.
 use Rattle.std.proofs.Common.{◌≡◌, Bool, true, false, cond, List, [], ◌∷◌, codes, Result, Ok, Err, refl}
-use Rattle.std.specs.Prelude.{◌||◌, ◌^◌, not, nat_lt, nat_le, length}
+use Rattle.std.specs.Prelude.{◌^◌, not, nat_lt, nat_le, length}
 use Rattle.std.specs.List.{before_first, after_first}
 use Rattle.std.specs.Prelude.{◌==◌}
 use Rattle.std.specs.Str.{bytes_eq}

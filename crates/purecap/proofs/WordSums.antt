@@ -1,14 +1,13 @@
 -- The addresses of tagged words: those of an image are those of its memories.
-use Rattle.std.proofs.Common.{◌≡◌, ℕ, zero, suc, ◌+◌, ◌-◌, ◌*◌, ◌/◌, ◌%◌, ◌^◌, ◌<◌, ◌≤◌, Bool, true, false, cond, List, [], ◌∷◌, ◌++◌, length, map, get_or, refl, sym, ap, subst, ◌∙◌, append-nil, append_assoc, arith}
-use Rattle.std.specs.Prelude.{All, slice_index_or}
-use Rattle.std.specs.List.{flat_map, zip}
+use Rattle.std.proofs.Common.{◌≡◌, ℕ, zero, suc, ◌+◌, ◌*◌, ◌/◌, ◌<◌, ◌≤◌, Bool, true, false, cond, List, [], ◌∷◌, ◌++◌, length, map, get_or, refl, sym, ap, ◌∙◌, append-nil, arith}
+use Rattle.std.specs.Prelude.{slice_index_or}
+use Rattle.std.specs.List.{flat_map}
 use Rattle.std.proofs.lemmas.List.{length-append}
-use Rattle.cap_mem.specs.Ascending.{Ascend}
 use Rattle.cap_mem.specs.Tagged.{TaggedMemory, is_tagged}
-use Rattle.cap_image.specs.ImageLaws.{HasTagsOf, TagsAreOfMemories, ObjectsAreOfMemories}
+use Rattle.cap_image.specs.ImageLaws.{TagsAreOfMemories, ObjectsAreOfMemories}
 use Rattle.cap_image.specs.Parts.{ImageObject, ImageParts, no_object, has_tag, tagged_below, tagged_granules}
 use Rattle.cap_image.specs.Report.{word_count}
-use Rattle.cap_image.specs.Writing.{object_of, objects_of, image_of, CanBeWritten}
+use Rattle.cap_image.specs.Writing.{objects_of, image_of, CanBeWritten}
 use Rattle.cap_image.proofs.TagLemmas.{tagged_none, tagged_more, tagged_less}
 use Rattle.purecap.specs.Demo.{address_at, object_addresses, word_addresses}
 use Rattle.purecap.specs.Summing.{address_if, first_addresses, memory_addresses, word_address}

@@ -22,7 +22,6 @@ use Rattle.purecap.specs.declared.faults.Failure.TheVariants.{NoFile, Malformed,
 use Rattle.purecap.specs.Faults.{failure_of, refusal_line, status_of, line_of}
 use Rattle.purecap.specs.Words.{Command, Show, Load, Link, Demo, LoadWords, command_of}
 use Rattle.purecap.specs.Story.{Product, Printed, Saved, Stop, stop_at, Story, stopped}
-use Rattle.purecap.specs.LinkWords.{LinkWords}
 use Rattle.purecap.specs.Linking.{found_in, link_story}
 use Rattle.purecap.specs.Demo.{demo_linked, demo_started, demo_opened, summary_of}
 

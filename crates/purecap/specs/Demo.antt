@@ -1,5 +1,5 @@
 -- What `demo` comes to, by its number.
-use Rattle.std.specs.Prelude.{ℕ, ◌+◌, ◌-◌, ◌^◌, ◌%◌, List, [], ◌∷◌, ◌++◌, length, map, flat_map, take, drop, sum, codes, decimal, Option, Some, None, Result, Ok, Err}
+use Rattle.std.specs.Prelude.{ℕ, ◌-◌, ◌^◌, ◌%◌, List, [], ◌∷◌, ◌++◌, length, map, flat_map, take, drop, sum, codes, decimal, Option, Some, None, Result, Ok, Err}
 use Rattle.std.specs.List.{zip}
 use Rattle.cap_base.specs.Fakes.{store_of}
 use Rattle.cap_base.specs.Outside.{Store, with_file}
@@ -21,7 +21,7 @@ use Rattle.purecap.specs.declared.faults.Failure.TheVariants.{NoMemory}
 use Rattle.purecap.specs.Faults.{failure_of}
 use Rattle.purecap.specs.LinkWords.{LinkWords}
 use Rattle.purecap.specs.Linking.{linked}
-use Rattle.purecap.specs.Story.{Product, Printed, Saved, Stop, stop_at, Story}
+use Rattle.purecap.specs.Story.{Product, Printed, Saved, Stop, stop_at}
 
 -- ---- the objects
 

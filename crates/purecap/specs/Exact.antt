@@ -1,5 +1,5 @@
 -- What a run of `load` says of exact bounds.
-use Rattle.std.specs.Prelude.{◌≡◌, ℕ, List, Option, Some, None, Result, Ok, Err, IfSome}
+use Rattle.std.specs.Prelude.{◌≡◌, ℕ, Option, Result, Ok, Err, IfSome}
 use Rattle.cap_base.specs.Outside.{Store}
 use Rattle.cap_exact.specs.Loads.{Run, KeepsBounds, outcome_in}
 use Rattle.cap_session.specs.declared.refusal.OpenRefusal.{OpenRefusal}

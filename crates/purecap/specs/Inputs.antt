@@ -1,11 +1,11 @@
 -- How the steps of `link` go.
-use Rattle.std.specs.Prelude.{◌≡◌, ℕ, List, [], ◌++◌, map, Option, IfSome, Result, Ok, Err}
+use Rattle.std.specs.Prelude.{◌≡◌, ℕ, List, [], ◌++◌, Option, IfSome, Result, Ok, Err}
 use Rattle.cap_base.specs.Outside.{Store, file_in}
 use Rattle.cap_link.specs.Inputs.{Input}
 use Rattle.purecap.specs.declared.faults.Failure.{Failure}
 use Rattle.purecap.specs.declared.faults.Failure.TheVariants.{ReadFault, WriteFault, NoMemory}
 use Rattle.purecap.specs.LinkWords.{LinkWords}
-use Rattle.purecap.specs.Story.{Product, Saved, Stop, stop_at}
+use Rattle.purecap.specs.Story.{Saved, Stop, stop_at}
 use Rattle.purecap.specs.Linking.{Found, input_of, input_step, inputs_of, link_end}
 use Rattle.purecap.specs.Run.{Count, IsKept, HasRisen, AreFound}
 

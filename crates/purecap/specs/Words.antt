@@ -1,18 +1,13 @@
 -- What the words of the command line ask for. Each command reads its words as `clap` does those of a simple command, and
 -- then come the rules of this program.
-use Rattle.std.specs.Prelude.{◌≡◌, ◌<◌, ◌≤◌, ◌^◌, ℕ, Bool, true, false, not, ◌&&◌, ◌||◌, ◌==◌, nat_lt, List, [], ◌∷◌, length, map, codes, Some, unwrap_or, Result, Ok, Err, if◌then◌else◌, All, string_bytes}
+use Rattle.std.specs.Prelude.{◌≡◌, ◌<◌, ◌≤◌, ◌^◌, ℕ, Bool, false, not, ◌==◌, nat_lt, List, [], ◌∷◌, length, map, codes, Result, Ok, Err, if◌then◌else◌, All, string_bytes}
 use Rattle.std.specs.List.{list_any, before_first, after_first}
 use Rattle.std.specs.Str.{bytes_eq}
-use Rattle.clap.specs.Lexer.{usize_max}
-use Rattle.clap.specs.Simple.{App, new_app, new_rule, with_rule, matches_of}
-use Rattle.clap.specs.Faults.{fault_of}
-use Rattle.clap.specs.Kinds.{Kinds}
-use Rattle.clap.specs.Walk.{Row, Rule, Text, first_of, all_of}
-use Rattle.clap.specs.declared.builder.action.ArgAction.TheVariants.{SetTrue}
+use Rattle.clap.specs.Simple.{App, new_app, with_rule}
+use Rattle.clap.specs.Walk.{Row, Text}
 use Rattle.cap_base.specs.Check.{number_of}
 use Rattle.cap_base.specs.Steps.{◌>>=◌, ◌>>◌, gather}
-use Rattle.cap_base.specs.Text.{is_plain}
-use Rattle.cap_base.specs.declared.check.Check.TheVariants.{PathLength, CallCount}
+use Rattle.cap_base.specs.declared.check.Check.TheVariants.{CallCount}
 use Rattle.cap_scope.specs.declared.choice.Rule.{Rule as LookUp}
 use Rattle.cap_scope.specs.declared.choice.Rule.TheVariants.{NonWeak, First}
 use Rattle.cap_session.specs.declared.form.Form.{Form}
@@ -20,7 +15,7 @@ use Rattle.cap_session.specs.declared.form.Form.TheVariants as forms
 use Rattle.cap_session.specs.Calls.{Call}
 use Rattle.cap_session.specs.Mappings.{IsName}
 use Rattle.purecap.specs.declared.faults.Failure.{Failure}
-use Rattle.purecap.specs.declared.faults.Failure.TheVariants.{Usage, Limit, NoMemory}
+use Rattle.purecap.specs.declared.faults.Failure.TheVariants.{Usage, Limit}
 use Rattle.purecap.specs.declared.words.Command.{Command as Given}
 use Rattle.purecap.specs.declared.words.Command.TheVariants as given
 use Rattle.purecap.specs.declared.words.LoadWords.{LoadWords as GivenLoad}

@@ -23,13 +23,7 @@ pub fn summary(alloc: Global, number: u32, session: &Session) -> Result<Vec<u8>,
     image_laws();
     let image = image_bytes_of(alloc, session)?;
     let addresses = word_addresses(alloc, session.memories())?;
-    summary_text(
-        alloc,
-        number,
-        session.memories().len(),
-        &addresses,
-        &image,
-    )
+    summary_text(alloc, number, session.memories().len(), &addresses, &image)
 }
 
 // The summary: how many objects there are, the addresses of the tagged words, and the bytes of the image.

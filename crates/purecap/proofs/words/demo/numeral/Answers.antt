@@ -1,4 +1,4 @@
-use Rattle.std.proofs.Common.{◌≡◌, subst}
+use Rattle.std.proofs.Common.{subst}
 use Rattle.std.specs.Str.Parse.{ParsesUnsigned}
 use Rattle.purecap.proofs.DemoAccepted.{numeral_read, numeral_large}
 use Rattle.purecap.proofs.words.demo.numeral.Goals as goal
