@@ -21,14 +21,10 @@ mod faults;
 mod given;
 mod linking;
 mod loading;
-#[cfg(test)]
-mod objects;
 mod running;
 mod saving;
 mod showing;
 mod summary;
-#[cfg(test)]
-mod tests;
 mod words;
 
 use crate::disk::{DiskFiles, StdSink};

@@ -11,8 +11,6 @@ ghost use Rattle.purecap.specs.Words.{IsAccepted, call_meant, call_of as call_in
 
 mod demo;
 pub(crate) mod link;
-#[cfg(test)]
-mod tests;
 
 use crate::faults::Failure;
 use crate::words::demo::demo_number;
