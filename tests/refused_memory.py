@@ -1,5 +1,5 @@
 #!/usr/bin/env python3
-"""Refuses each allocation of a run in turn: refused_memory.py PROGRAM.
+"""Refuses each allocation of a run in turn, and of a long run some hundred: refused_memory.py PROGRAM.
 
 The program must answer as it does with ample memory, or 12; then it has created no file, and says that memory ran out
 behind what it had told. It says nothing where the words themselves did not fit. A library of the C compiler that is
@@ -61,7 +61,7 @@ OBJECTS = {"app": written(app), "libgreet.so": written(libgreet), "libplugin.so"
 OUT_OF_MEMORY = b"purecap: out of memory\n"
 RUNS = ["load -o app.img app open:libplugin.so", "load -o app.img app open:libplugin.so open:libbad.so",
         "load -o app.img app try:libbad.so open:libplugin.so", "link -o app.img first.o second.o",
-        "link -o app.img --shared first first.o second.o libgreet.so", "show shown.img"]
+        "link -o app.img --shared first first.o second.o libgreet.so", "show shown.img", "demo 1"]
 
 
 def main() -> None:
@@ -93,7 +93,8 @@ def main() -> None:
             total = int(folder.joinpath("counted").read_text())
             same = starved = 0
             lines = {b"", OUT_OF_MEMORY} | ({ample[2] + OUT_OF_MEMORY} if ample[0] == 0 else set())
-            for refused in range(1, total + 1):
+            step = 1 + total // 400
+            for refused in range(1, total + 1, step):
                 ended = run(words, refused)
                 if ended == ample:
                     same += 1
@@ -102,7 +103,8 @@ def main() -> None:
                 else:
                     wrong += 1
                     print(f"{words}, allocation {refused}: status {ended[0]}, {ended[2]!r}")
-            print(f"{words}: status {ample[0]}; of {total} allocations refused in turn, {starved} gave 12 and {same} changed nothing")
+            print(f"{words}: status {ample[0]}; of {total} allocations {starved + same} refused in turn, {starved} gave 12 "
+                  f"and {same} changed nothing")
     sys.exit(1 if wrong else 0)
 
 
