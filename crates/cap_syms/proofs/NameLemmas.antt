@@ -1,11 +1,14 @@
 -- A set of names, seen by their bytes.
-use Rattle.std.proofs.Common.{◌≡◌, ℕ, ◌+◌, Bool, true, false, not, cond, ltb, ◌||◌, List, [], ◌∷◌, ◌++◌, length, map, Some, None, Bor, refl, sym, ap, ◌∙◌}
+use Rattle.std.proofs.Common.{◌≡◌, ℕ, zero, suc, ◌+◌, ◌<◌, Bool, true, false, not, cond, ltb, ◌||◌, List, [], ◌∷◌, ◌++◌, length, map, get_or, Some, None, Bor, refl, sym, ap, subst, ◌∙◌, arith}
 use Rattle.std.specs.Prelude.{position}
-use Rattle.std.specs.List.{list_any, position_or_len}
+use Rattle.std.specs.List.{list_any, position_or_len, AllByRecursion, IsDistinct}
 use Rattle.std.specs.Str.{bytes_eq}
+use Rattle.std.proofs.lemmas.Bool.{both_ways, false_from_ne_true, lt-ltb}
 use Rattle.std.proofs.lemmas.List.{length-map, map_push}
+use Rattle.std.proofs.lemmas.Map.Keys.{IsDistinct-head, IsDistinct-tail}
 use Rattle.indexmap.specs.IndexSet.{insert_key}
 use Rattle.cap_syms.specs.Distinct.{with_new}
+use Rattle.cap_syms.proofs.Firsts.{bytes_same}
 
 abbrev pub Key : Type 0
 Key = Bor (List ℕ)
@@ -40,3 +43,35 @@ add_texts ks k = by (list_any (λ b. bytes_eq k.now b.now) ks) refl
         ap (λ c. texts (cond c ks (ks ++ k ∷ []))) e
         ∙ map_push (λ j. j.now) ks k
         ∙ sym (ap (λ c. cond c (texts ks) (texts ks ++ k.now ∷ [])) (sym (any_texts (bytes_eq k.now) ks) ∙ e))
+
+-- ---- a name that stands at a known place
+
+abbrev same_key : Key → Key → Bool
+same_key a b = bytes_eq a.now b.now
+
+all_at : (P : Key → Type 0) (ks : List Key) (i : ℕ) (d : Key) → AllByRecursion P ks → i < length ks → P (get_or ks i d)
+all_at P [] i d h lt = absurd (omega (arith, lt))
+all_at P (k ∷ ks) zero d h lt = h.0
+all_at P (k ∷ ks) (suc i) d h lt = all_at P ks i d h.1 (omega (arith, lt))
+
+-- a name that stands at a place stands at no earlier one
+distinct-place : (q : List ℕ) (ks : List Key) (i : ℕ) (d : Key) → IsDistinct same_key ks → i < length ks → bytes_eq q (get_or ks i d).now ≡ true → position_or_len (λ k. bytes_eq q k.now) ks ≡ i
+distinct-place q [] i d distinct lt e = absurd (omega (arith, lt))
+distinct-place q (k ∷ ks) zero d distinct lt e = ap (λ b. cond (not b) (1 + position_or_len (λ (x : Key). bytes_eq q x.now) ks) 0) e
+distinct-place q (k ∷ ks) (suc i) d distinct lt e =
+    let inside : i < length ks = omega (arith, lt) in
+    let other : same_key k (get_or ks i d) ≡ false = all_at (λ y. same_key k y ≡ false) ks i d (IsDistinct-head same_key k ks distinct) inside in
+    let apart : bytes_eq q k.now ≡ false = false_from_ne_true _ (λ h. both_ways (same_key k (get_or ks i d)) other (ap (λ b. bytes_eq b (get_or ks i d).now) (sym (bytes_same q k.now h)) ∙ e)) in
+    let rest : position_or_len (λ (x : Key). bytes_eq q x.now) ks ≡ i = distinct-place q ks i d (IsDistinct-tail same_key k ks distinct) inside e in
+    let at : position_or_len (λ (x : Key). bytes_eq q x.now) (k ∷ ks) ≡ 1 + position_or_len (λ (x : Key). bytes_eq q x.now) ks = ap (λ b. cond (not b) (1 + position_or_len (λ (x : Key). bytes_eq q x.now) ks) 0) apart in
+    omega (arith, at, rest)
+
+distinct-position : (q : List ℕ) (ks : List Key) (i : ℕ) (d : Key) → IsDistinct same_key ks → i < length ks → bytes_eq q (get_or ks i d).now ≡ true → Some i ≡ position (bytes_eq q) (texts ks)
+distinct-position q ks i d distinct lt e =
+    sym (ap (λ b. cond b (Some i) None) (lt-ltb i (length ks) lt))
+    ∙ sym (ap (λ n. cond (ltb n (length ks)) (Some n) None) (distinct-place q ks i d distinct lt e))
+    ∙ position_texts (bytes_eq q) ks
+
+pub place-known : (q : List ℕ) (xs ks : List Key) (i : ℕ) (d : Key) → xs ≡ ks → IsDistinct same_key ks → i < length xs → bytes_eq q (get_or xs i d).now ≡ true → Some i ≡ position (bytes_eq q) (texts ks)
+place-known q xs ks i d same distinct lt e =
+    distinct-position q ks i d distinct (subst (λ ys. i < length ys) same lt) (subst (λ (ys : List Key). bytes_eq q (get_or ys i d).now ≡ true) same e)

@@ -19,6 +19,7 @@ mod entries;
 mod laws;
 mod names;
 mod offered;
+mod places;
 mod seen;
 mod table;
 mod tally;

@@ -58,6 +58,18 @@ impl<'a> Names<'a> {
         self.set.get_index_of(name)
     }
 
+    /// The place of a name that likely stands at this one. It is hashed only where another name stands there.
+    pub(crate) fn find_at(&self, i: usize, name: &[u8]) -> Option<usize>
+        ensures { result ≡ position (bytes_eq name.now) self.now }
+    {
+        let keys = self.set.as_slice();
+        if i < keys.len() && name == keys[i] {
+            Some(i)
+        } else {
+            self.find(name)
+        }
+    }
+
     /// Whether the name is one of them.
     pub(crate) fn has(&self, name: &[u8]) -> bool
         ensures { result ≡ list_any (bytes_eq name.now) self.now }

@@ -8,6 +8,7 @@ ghost use Rattle.cap_syms.specs.Occurrences.{occurrences, is_local as is_local_o
 ghost use Rattle.cap_syms.specs.Tally.{noted, noted_if_outside, entered, with_input, tallied};
 
 use crate::names::Names;
+use crate::places::Rows;
 use crate::tally::{Spot, Tally};
 use cap_base::NoMemory;
 use cap_elf::{RelFile, Symbol};
@@ -19,6 +20,7 @@ use std::marker::Model;
 pub(crate) struct Seen<'a> {
     pub(crate) names: Names<'a>,
     pub(crate) tallies: Vec<Tally>,
+    pub(crate) rows: Rows,
 }
 
 impl<'a> Model for Seen<'a> {
@@ -53,6 +55,7 @@ impl<'a> Seen<'a> {
         Seen {
             names: Names::new(alloc),
             tallies: Vec::new(alloc),
+            rows: Rows::new(alloc),
         }
     }
 
@@ -63,13 +66,36 @@ impl<'a> Seen<'a> {
         let Seen {
             mut names,
             mut tallies,
+            mut rows,
         } = self;
         let row = names.add(name)?;
         enter(&mut tallies, row, spot, symbol)?;
         if tallies.len() >= u32::MAX as usize {
             return Err(NoMemory);
         }
-        Ok(Seen { names, tallies })
+        rows.push(row)?;
+        Ok(Seen {
+            names,
+            tallies,
+            rows,
+        })
+    }
+
+    /// Passes over a symbol.
+    fn pass_over(self) -> Result<Seen<'a>, NoMemory>
+        ensures { IfOk result (λ seen. seen ≡ self.entry) }
+    {
+        let Seen {
+            names,
+            tallies,
+            mut rows,
+        } = self;
+        rows.push(0)?;
+        Ok(Seen {
+            names,
+            tallies,
+            rows,
+        })
     }
 
     /// Takes in a symbol of an input, unless it is local.
@@ -78,7 +104,7 @@ impl<'a> Seen<'a> {
         ensures { IfOk result (λ seen. seen ≡ noted_if_outside self.entry (record { name = name_of rel.now spot.symbol; file = spot.file; symbol = spot.symbol; as_is = symbol })) }
     {
         if symbol.binding == 0 {
-            Ok(self)
+            self.pass_over()
         } else {
             self.note(rel.name(spot.symbol), spot, symbol)
         }

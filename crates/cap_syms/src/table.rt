@@ -14,6 +14,7 @@ use crate::decision::{Decision, bound};
 use crate::entries::{Bound, Entry, Shape};
 use crate::names::Names;
 use crate::offered::offered;
+use crate::places::Rows;
 use crate::seen::{Seen, tally_all};
 use crate::tally::{Second, Tally};
 use cap_base::{Check, Fault, Kind, NoMemory, Refusal};
@@ -26,6 +27,7 @@ use std::marker::Model;
 pub struct Table<'a> {
     names: Names<'a>,
     decisions: Vec<Decision>,
+    rows: Rows,
 }
 
 impl<'a> Model for Table<'a> {
@@ -100,12 +102,23 @@ fn decisions(alloc: Global, tallies: &[Tally], program: bool) -> Result<Vec<Deci
 }
 
 /// The table of the names that were seen, each with its decision.
-fn decide<'a>(alloc: Global, seen: Seen<'a>, program: bool) -> Result<Table<'a>, NoMemory>
+fn decide<'a>(
+    alloc: Global,
+    rels: &[RelFile],
+    seen: Seen<'a>,
+    program: bool,
+) -> Result<Table<'a>, NoMemory>
     ensures { IfOk result (λ table. table ≡ map (decided_row program) seen.entry) }
 {
     let decisions = decisions(alloc, &seen.tallies, program)?;
     let names = seen.names;
-    Ok(Table { names, decisions })
+    let mut rows = seen.rows;
+    rows.set_starts(rels)?;
+    Ok(Table {
+        names,
+        decisions,
+        rows,
+    })
 }
 
 fn is_strongly_absent(shape: Shape) -> bool
@@ -182,7 +195,7 @@ pub fn resolve<'a>(
     let program = is_program(kind);
     let seen = tally_all(alloc, rels)?;
     refuse_seconds(rels, &seen.tallies)?;
-    let table = decide(alloc, seen, program)?;
+    let table = decide(alloc, rels, seen, program)?;
     let offered = offered(alloc, dyns, program)?;
     table.refuse_missing(rels, &offered, program)?;
     Ok(table)
@@ -249,6 +262,17 @@ impl<'a> Table<'a> {
         ensures { result ≡ index_of self.now name.now }
     {
         match self.names.find(name) {
+            Some(row) => Some(row as u32),
+            None => None,
+        }
+    }
+
+    /// The row of a name, as `find` gives it. A name that this symbol of the input at this place has is compared once,
+    /// and any other is looked up by hash.
+    pub fn find_at(&self, file: u32, symbol: u32, name: &[u8]) -> Option<u32>
+        ensures { result ≡ index_of self.now name.now }
+    {
+        match self.names.find_at(self.rows.of(file, symbol), name) {
             Some(row) => Some(row as u32),
             None => None,
         }

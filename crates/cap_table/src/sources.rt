@@ -154,7 +154,9 @@ fn row_of(rels: &[RelFile], table: &Table<'_>, file: u32, symbol: u32) -> u32
     ensures row { result ≡ unwrap_or (index_of table.now (name_of (file_of rels.now file) symbol)) 0 }
     ensures below { result < length table.now }
 {
-    table.find(rels[file as usize].name(symbol)).unwrap()
+    table
+        .find_at(file, symbol, rels[file as usize].name(symbol))
+        .unwrap()
 }
 
 #[tactic(auto, unfolding(crate::specs::Targets::target_of))]
