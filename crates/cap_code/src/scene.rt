@@ -185,9 +185,9 @@ impl<'a> Scene<'a> {
         self.sources.target(step.file, self.reloc(step).symbol)
     }
 
-    /// The address that a target and an addend name.
+    /// The address that a target and an addend name, sought first in the guessed piece.
     #[tactic(auto, unfolding(crate::specs::Values::aim_at))]
-    fn aim_at(&self, target: &Target, addend: i64) -> u64
+    fn aim_at(&self, guess: u32, target: &Target, addend: i64) -> u64
         requires { IsTargetIn self.now target.now }
         ensures { result ≡ aim_at_of self.now target.now addend }
     {
@@ -195,7 +195,7 @@ impl<'a> Scene<'a> {
             fixed_value(target, addend)
         } else {
             self.layout
-                .point(target.file, target.symbol, addend)
+                .point_near(guess, target.file, target.symbol, addend)
                 .unwrap_or(0)
         }
     }
@@ -206,7 +206,7 @@ impl<'a> Scene<'a> {
         requires { IsStepIn self.now step.now }
         ensures { result ≡ aim_of self.now step.now }
     {
-        self.aim_at(&self.target(step), self.reloc(step).addend)
+        self.aim_at(step.piece, &self.target(step), self.reloc(step).addend)
     }
 
     /// The same for a call or a branch, which goes to the stub of what is left to load.
@@ -239,7 +239,7 @@ impl<'a> Scene<'a> {
     {
         let reloc = self.reloc(step);
         self.layout
-            .place(step.file, reloc.section, reloc.offset)
+            .place_near(step.piece, step.file, reloc.section, reloc.offset)
             .unwrap_or(0)
     }
 

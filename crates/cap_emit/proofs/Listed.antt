@@ -21,8 +21,7 @@ use Rattle.cap_table.specs.declared.target.Step.{Step}
 use Rattle.cap_table.specs.Targets.{Named}
 use Rattle.cap_table.specs.Checks.{reloc_of, target_at, walk_of}
 use Rattle.cap_table.specs.Planned.{Planned, planned, plan_of, sizes_of, fields_of, symbol_names, tags_of, is_relocated, is_described}
-use Rattle.cap_table.specs.declared.wants.Want.{Want}
-use Rattle.cap_table.specs.Lists.{slot_want, slot_wants, field_want, field_wants, wants, dyn_symbol, dyn_reloc_of, cap_reloc_of, relas_of, cap_relocs_of, name_offsets, linked_names, entries_with, tag_entry, dynamics_of, filled}
+use Rattle.cap_table.specs.Lists.{Want, slot_want, slot_wants, field_want, field_wants, wants, dyn_symbol, dyn_reloc_of, cap_reloc_of, relas_of, cap_relocs_of, name_offsets, linked_names, entries_with, tag_entry, dynamics_of, filled}
 use Rattle.cap_table.specs.Bodies.{BodiesValue, AreLong}
 use Rattle.cap_emit.proofs.Fits.{AreShort}
 use Rattle.cap_emit.proofs.Fitting.{AreSized}

@@ -110,7 +110,7 @@ pub(crate) fn push_segment(file: &mut Vec<u8>, kind: u32, segment: Segment) -> R
 pub(crate) fn push_symbol(
     file: &mut Vec<u8>,
     offset: u32,
-    symbol: &DynSymbol,
+    symbol: &DynSymbol<'_>,
 ) -> Result<(), NoMemory>
     ensures { OnOk result (file.new.items ≡ file.old.items ++ symbol_bytes (offset, symbol.now)) }
 {

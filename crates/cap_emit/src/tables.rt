@@ -112,19 +112,19 @@ pub(crate) fn push_cap_relocs(file: &mut Vec<u8>, lists: &CapTable<'_>) -> Resul
 
 /// The names of symbols. None counts as defined: what is asked for is the words of their table alone.
 #[tactic(auto, unfolding(crate::specs::Written::undefined_names))]
-fn names_of(alloc: Global, symbols: &[DynSymbol]) -> Result<NameList, NoMemory>
+fn names_of(alloc: Global, symbols: &[DynSymbol<'_>]) -> Result<NameList, NoMemory>
     ensures { IfOk result (λ names. names ≡ undefined_names symbols.now) }
 {
     let mut names = NameList::new(alloc);
     for symbol in symbols {
-        names.push(symbol.name.bytes(), false)?;
+        names.push(symbol.name, false)?;
     }
     Ok(names)
 }
 
 /// The hash table of the names of symbols, that of the null symbol too.
 #[tactic(auto, using(crate::proofs::Undefined::undefined_distinct, crate::proofs::Undefined::undefined_first, crate::proofs::Undefined::undefined_count, crate::proofs::Undefined::undefined_are))]
-pub(crate) fn chains_of(alloc: Global, symbols: &[DynSymbol]) -> Result<Chains, NoMemory>
+pub(crate) fn chains_of(alloc: Global, symbols: &[DynSymbol<'_>]) -> Result<Chains, NoMemory>
     requires some { 1 ≤ length symbols.now }
     requires few { length symbols.now ≤ 2 ^ 20 }
     ensures { IfOk result (λ chains. chains.words ≡ built_words (map (λ s. s.name) symbols.now)) }

@@ -120,13 +120,7 @@ impl<'a> Layout<'a> {
     }
 
     /// The address of an offset of a section: None exactly where the section isn't kept or the offset is above its size.
-    pub fn place(&self, file: u32, section: u32, offset: u64) -> Option<u64>
-        ensures { result ≡ place_address self.now file section offset }
-    {
-        self.place_near(0, file, section, offset)
-    }
-
-    /// The same, found at once where the guess or the number after it is that of the piece. Any number may be guessed.
+    /// The piece is found at once where the guess or the number after it is its number. Any number may be guessed.
     pub fn place_near(&self, guess: u32, file: u32, section: u32, offset: u64) -> Option<u64>
         ensures { result ≡ place_address self.now file section offset }
     {
@@ -273,16 +267,7 @@ impl<'a> Layout<'a> {
 
     /// The address and the size of a symbol: the padded size of its piece where it has bytes in a split section, else its
     /// own. None exactly where the symbol isn't defined in a kept section and isn't the one that decides on a common
-    /// name.
-    pub fn interval(&self, file: u32, symbol: u32) -> Option<(u64, u64)>
-        requires file { file < length self.now.rels }
-        requires symbol { symbol < length (file_of self.now.rels file).symbols }
-        ensures { result ≡ interval_of self.now file symbol }
-    {
-        self.interval_near(0, file, symbol)
-    }
-
-    /// The same, found at once where the guess or the number after it is that of the piece. Any number may be guessed.
+    /// name. The piece is found at once where the guess or the number after it is its number. Any number may be guessed.
     pub fn interval_near(&self, guess: u32, file: u32, symbol: u32) -> Option<(u64, u64)>
         requires file { file < length self.now.rels }
         requires symbol { symbol < length (file_of self.now.rels file).symbols }

@@ -85,13 +85,7 @@ impl Pieces {
 
     /// The piece of an offset of a section: None exactly where the section isn't kept or the offset is above its size.
     /// Where one piece ends and the next begins it is the next.
-    pub fn find(&self, file: u32, section: u32, offset: u64) -> Option<u32>
-        ensures { result ≡ piece_at self.now.all file section offset }
-    {
-        self.find_near(0, file, section, offset)
-    }
-
-    /// The same, found at once where the guess or the number after it is that of the piece. Any number may be guessed.
+    /// It is found at once where the guess or the number after it is its number. Any number may be guessed.
     pub fn find_near(&self, guess: u32, file: u32, section: u32, offset: u64) -> Option<u32>
         ensures { result ≡ piece_at self.now.all file section offset }
     {
@@ -113,15 +107,8 @@ impl Pieces {
         )
     }
 
-    /// The piece that holds the `size` bytes from an offset of a section on, where one does.
-    pub fn holding(&self, file: u32, section: u32, offset: u64, size: u64) -> Option<u32>
-        requires some { 0 < size }
-        ensures { result ≡ field_piece self.now.all file section offset size }
-    {
-        self.holding_near(0, file, section, offset, size)
-    }
-
-    /// The same, found at once where the guess or the number after it is that of the piece. Any number may be guessed.
+    /// The piece that holds the `size` bytes from an offset of a section on, where one does. It is found at once where the
+    /// guess or the number after it is its number. Any number may be guessed.
     pub fn holding_near(
         &self,
         guess: u32,

@@ -27,8 +27,7 @@ use Rattle.cap_layout.specs.Points.{Laid, address_of, class_at, symbol_at, place
 use Rattle.cap_table.specs.declared.target.Target.{Target}
 use Rattle.cap_table.specs.Targets.{Named, row_target, is_address, is_section_at}
 use Rattle.cap_table.specs.Planned.{Planned, sizes_of, planned, exported, is_relocated, is_described}
-use Rattle.cap_table.specs.declared.wants.Want.{Want}
-use Rattle.cap_table.specs.Lists.{CapTableValue, DynSymbolValue, wants, dyn_symbol, dyn_reloc_of, cap_reloc_of, filled}
+use Rattle.cap_table.specs.Lists.{Want, CapTableValue, DynSymbolValue, wants, dyn_symbol, dyn_reloc_of, cap_reloc_of, filled}
 use Rattle.cap_code.specs.Values.{Scene}
 use Rattle.cap_readback.specs.Stands.{AreSmall}
 use Rattle.cap_readback.specs.Content.{IsGoodReloc, cap_fields}

@@ -20,11 +20,10 @@ use Rattle.cap_syms.specs.Resolved.{Resolved, row_of, index_of}
 use Rattle.cap_layout.specs.Points.{Laid, interval_of}
 use Rattle.cap_table.specs.declared.target.Step.{Step}
 use Rattle.cap_table.specs.declared.target.Target.{Target}
-use Rattle.cap_table.specs.declared.wants.Want.{Want}
 use Rattle.cap_table.specs.Targets.{Named, local_target, row_target, target_of, same_target, is_absolute_at}
 use Rattle.cap_table.specs.Checks.{reloc_of, target_at}
 use Rattle.cap_table.specs.Planned.{Planned, exported, slots_of, fields_of, needs_slot, is_described}
-use Rattle.cap_table.specs.Lists.{DynSymbolValue, slot_want, slot_wants, field_want, field_wants, wants, permissions_of, cap_reloc_of, cap_relocs_of, present_symbol, absent_symbol, dyn_symbol, null_dyn_symbol}
+use Rattle.cap_table.specs.Lists.{Want, DynSymbolValue, slot_want, slot_wants, field_want, field_wants, wants, permissions_of, cap_reloc_of, cap_relocs_of, present_symbol, absent_symbol, dyn_symbol, null_dyn_symbol}
 use Rattle.cap_readback.specs.Plan.{AreLaid}
 use Rattle.cap_link.specs.Linked.{Linked}
 use Rattle.cap_link.specs.View.{linked_view, symbol_read, cap_reloc_read}

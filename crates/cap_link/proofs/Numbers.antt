@@ -31,9 +31,8 @@ use Rattle.cap_table.specs.Kinds.{is_slot}
 use Rattle.cap_table.specs.Targets.{Named, row_target, is_dynamic, is_loose_target, is_absolute_at}
 use Rattle.cap_table.specs.Checks.{reloc_of, no_reloc}
 use Rattle.cap_table.specs.Planned.{Planned, fields_of, is_field}
-use Rattle.cap_table.specs.declared.wants.Want.{Want}
 use Rattle.cap_table.specs.declared.describing.Described.{Described}
-use Rattle.cap_table.specs.Lists.{DynSymbolValue, slot_want, field_want, slot_wants, field_wants, wants, nothing_described, piece_described, loose_described, section_number, interval_described, described, cap_reloc_of, symbol_index, dyn_reloc_of, present_symbol, absent_symbol, dyn_symbol}
+use Rattle.cap_table.specs.Lists.{Want, DynSymbolValue, slot_want, field_want, slot_wants, field_wants, wants, nothing_described, piece_described, loose_described, section_number, interval_described, described, cap_reloc_of, symbol_index, dyn_reloc_of, present_symbol, absent_symbol, dyn_symbol}
 use Rattle.cap_readback.specs.Stands.{AreSmall}
 use Rattle.cap_readback.specs.Content.{IsGoodReloc, cap_fields}
 use Rattle.cap_readback.specs.Law.{IsSymbol}

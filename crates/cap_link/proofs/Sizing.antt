@@ -19,8 +19,7 @@ use Rattle.cap_table.specs.declared.target.Step.{Step}
 use Rattle.cap_table.specs.Targets.{Named, row_target, is_fixed, fixed_value}
 use Rattle.cap_table.specs.Checks.{reloc_of, target_at}
 use Rattle.cap_table.specs.Planned.{Planned, planned, sizes_of, tags_of, symbol_names, all_names, name_bytes, is_relocated, is_described, fields_of}
-use Rattle.cap_table.specs.declared.wants.Want.{Want}
-use Rattle.cap_table.specs.Lists.{CapTableValue, DynSymbolValue, slot_want, field_want, slot_wants, field_wants, wants, dyn_symbol, present_symbol, absent_symbol, null_dyn_symbol, name_offsets, dynamics_of, entries_with, tag_entry, linked_names, dyn_reloc_of, cap_reloc_of, filled}
+use Rattle.cap_table.specs.Lists.{Want, CapTableValue, DynSymbolValue, slot_want, field_want, slot_wants, field_wants, wants, dyn_symbol, present_symbol, absent_symbol, null_dyn_symbol, name_offsets, dynamics_of, entries_with, tag_entry, linked_names, dyn_reloc_of, cap_reloc_of, filled}
 use Rattle.cap_table.specs.Bodies.{zeros, BodiesValue, slot_held, held, plain_of}
 use Rattle.cap_code.specs.Values.{Scene, is_patched}
 use Rattle.cap_code.specs.Patched.{stub_bytes, patch_step, patch_of}

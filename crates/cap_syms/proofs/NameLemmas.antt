@@ -1,9 +1,9 @@
 -- A set of names, seen by their bytes.
-use Rattle.std.proofs.Common.{◌≡◌, ℕ, zero, suc, ◌+◌, ◌<◌, Bool, true, false, not, cond, ltb, ◌||◌, List, [], ◌∷◌, ◌++◌, length, map, get_or, Some, None, Bor, refl, sym, ap, subst, ◌∙◌, arith}
-use Rattle.std.specs.Prelude.{position}
+use Rattle.std.proofs.Common.{◌≡◌, ℕ, zero, suc, ◌+◌, ◌<◌, Bool, true, false, not, cond, ltb, ◌||◌, List, [], ◌∷◌, ◌++◌, length, map, get_or, Some, None, Bor, inl, inr, refl, sym, ap, subst, ◌∙◌, arith}
+use Rattle.std.specs.Prelude.{position, unwrap_or}
 use Rattle.std.specs.List.{list_any, position_or_len, AllByRecursion, IsDistinct}
 use Rattle.std.specs.Str.{bytes_eq}
-use Rattle.std.proofs.lemmas.Bool.{both_ways, false_from_ne_true, lt-ltb}
+use Rattle.std.proofs.lemmas.Bool.{both_ways, false_from_ne_true, lt-ltb, ltb-true, cases_Bool}
 use Rattle.std.proofs.lemmas.List.{length-map, map_push}
 use Rattle.std.proofs.lemmas.Map.Keys.{IsDistinct-head, IsDistinct-tail}
 use Rattle.indexmap.specs.IndexSet.{insert_key}
@@ -75,3 +75,28 @@ distinct-position q ks i d distinct lt e =
 pub place-known : (q : List ℕ) (xs ks : List Key) (i : ℕ) (d : Key) → xs ≡ ks → IsDistinct same_key ks → i < length xs → bytes_eq q (get_or xs i d).now ≡ true → Some i ≡ position (bytes_eq q) (texts ks)
 place-known q xs ks i d same distinct lt e =
     distinct-position q ks i d distinct (subst (λ ys. i < length ys) same lt) (subst (λ (ys : List Key). bytes_eq q (get_or ys i d).now ≡ true) same e)
+
+-- a name that stands somewhere is one of them
+placed-any : (p : List ℕ → Bool) (ns : List (List ℕ)) → position_or_len p ns < length ns → list_any p ns ≡ true
+placed-any p [] lt = absurd (omega (arith, lt))
+placed-any p (n ∷ ns) lt = elim (cases_Bool (p n)) [
+  | inl e ↦ ap (λ c. c || list_any p ns) e
+  | inr e ↦
+      let at : position_or_len p (n ∷ ns) ≡ 1 + position_or_len p ns = ap (λ c. cond (not c) (1 + position_or_len p ns) 0) e in
+      ap (λ c. c || list_any p ns) e ∙ placed-any p ns (omega (arith, at, lt))
+]
+
+-- its place, and that it isn't new
+pub placed : (q : List ℕ) (ns : List (List ℕ)) (i : ℕ) → Some i ≡ position (bytes_eq q) ns → (i ≡ position_or_len (bytes_eq q) ns) × (ns ≡ with_new bytes_eq ns q)
+placed q ns i e = by (ltb (position_or_len (bytes_eq q) ns) (length ns)) refl
+  where
+    at : ℕ
+    at = position_or_len (bytes_eq q) ns
+
+    by : (b : Bool) → ltb at (length ns) ≡ b → (i ≡ position_or_len (bytes_eq q) ns) × (ns ≡ with_new bytes_eq ns q)
+    by true h =
+        let is : Some i ≡ Some at = e ∙ ap (λ c. cond c (Some at) None) h in (
+          ap (λ o. unwrap_or o 0) is,
+          sym (ap (λ c. cond c ns (ns ++ q ∷ [])) (placed-any (bytes_eq q) ns (ltb-true at (length ns) h))),
+        )
+    by false h = let none : Some i ≡ None = e ∙ ap (λ c. cond c (Some at) None) h in absurd (cc)

@@ -1,5 +1,5 @@
 -- One more occurrence, in names and tallies that stand beside each other.
-use Rattle.std.proofs.Common.{◌≡◌, ℕ, suc, ◌+◌, ◌<◌, Bool, true, false, not, cond, eqb, ◌||◌, List, [], ◌∷◌, ◌++◌, length, get_or, set, inl, inr, refl, sym, ap, ◌∙◌, arith, length-append, true≢false}
+use Rattle.std.proofs.Common.{◌≡◌, ℕ, suc, ◌+◌, ◌<◌, Bool, true, false, not, cond, eqb, ◌||◌, List, [], ◌∷◌, ◌++◌, length, get_or, set, inl, inr, refl, sym, ap, ◌∙◌, arith, length-append, true≢false, ◌≤◌}
 use Rattle.std.specs.Prelude.{zip}
 use Rattle.std.specs.List.{list_any, position_or_len}
 use Rattle.std.specs.Str.{bytes_eq}
@@ -96,3 +96,15 @@ module _ (o : Occurrence) where
             ap (λ xs. zip xs (entered ts (place ns) o)) names ∙ ap (zip (ns ++ o.name ∷ [])) tallies ∙ absent-noted ns ts len e,
             ap length names ∙ longer ∙ sym (ap length tallies),
           )
+
+  -- the tallies grow by one at most
+  pub one_more : (ts : List Tally) (i : ℕ) → length (entered ts i o) ≤ length ts + 1
+  one_more ts i = by (eqb i (length ts)) refl
+    where
+      by : (b : Bool) → eqb i (length ts) ≡ b → length (entered ts i o) ≤ length ts + 1
+      by true e =
+          let same : length (entered ts i o) ≡ length ts + 1 = ap (λ c. length (chosen ts i c)) e ∙ length-append ts (with_occurrence no_tally o ∷ []) in
+          omega (arith, same)
+      by false e =
+          let same : length (entered ts i o) ≡ length ts = ap (λ c. length (chosen ts i c)) e ∙ length-set ts i (with_occurrence (get_or ts i no_tally) o) in
+          omega (arith, same)

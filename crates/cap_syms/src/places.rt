@@ -13,18 +13,27 @@ pub(crate) struct Rows {
 }
 
 impl Rows {
-    /// No rows. It takes no memory.
-    pub(crate) fn new(alloc: Global) -> Rows {
-        Rows {
-            rows: Vec::new(alloc),
+    /// No rows, with room for those of so many symbols.
+    pub(crate) fn with_capacity(alloc: Global, symbols: usize) -> Result<Rows, NoMemory> {
+        let rows = Vec::with_capacity(alloc, symbols)?;
+        Ok(Rows {
+            rows,
             starts: Vec::new(alloc),
-        }
+        })
     }
 
     /// Appends the row of the next symbol.
     pub(crate) fn push(&mut self, row: usize) -> Result<(), NoMemory> {
         self.rows.push(u32::try_from(row).unwrap_or(0))?;
         Ok(())
+    }
+
+    /// Behind the row of the last symbol: the names of one input often follow one another as those of another do.
+    pub(crate) fn next(&self) -> usize {
+        match self.rows.last() {
+            Some(row) => (*row as usize).wrapping_add(1),
+            None => 0,
+        }
     }
 
     /// Notes where the symbols of each input begin.

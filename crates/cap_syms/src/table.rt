@@ -94,7 +94,7 @@ fn decision(tally: Tally, program: bool) -> Decision
 fn decisions(alloc: Global, tallies: &[Tally], program: bool) -> Result<Vec<Decision>, NoMemory>
     ensures { IfOk result (λ ds. ds.items ≡ map (λ t. record { entry = entry_from t; bound = bound_of program (entry_from t) }) tallies.now) }
 {
-    let mut decisions = Vec::new(alloc);
+    let mut decisions = Vec::with_capacity(alloc, tallies.len())?;
     for tally in tallies {
         decisions.push(decision(*tally, program))?;
     }

@@ -1,5 +1,6 @@
 pub mod Kinds
 pub mod Targets
+pub mod Standing
 pub mod Checks
 pub mod Walked
 pub mod Planned

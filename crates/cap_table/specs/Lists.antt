@@ -19,11 +19,17 @@ use Rattle.cap_layout.specs.Laid.{IsLayoutOf}
 use Rattle.cap_table.specs.declared.records.DynEntry.{DynEntry}
 use Rattle.cap_table.specs.declared.target.Target.{Target}
 use Rattle.cap_table.specs.declared.target.Step.{Step}
-use Rattle.cap_table.specs.declared.wants.Want.{Want}
 use Rattle.cap_table.specs.declared.describing.Described.{Described}
 use Rattle.cap_table.specs.Targets.{Named, row_target, is_dynamic, is_loose_target, is_absolute_at}
 use Rattle.cap_table.specs.Checks.{reloc_of, target_at}
 use Rattle.cap_table.specs.Planned.{Planned, all_names, symbol_names, name_bytes, tags_of, fields_of, is_described, is_relocated, IsPlanOf}
+
+-- a field of the linked file that wants a value: its type of relocation, its address, and what it refers to
+pub record Want : Type 0 where
+  pub kind : ℕ
+  pub address : ℕ
+  pub target : Target
+  pub addend : ℤ
 
 -- each slot of the capability table, in order
 abbrev pub slot_want : Laid → ℕ × Target → Want

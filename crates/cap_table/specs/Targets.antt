@@ -85,13 +85,6 @@ target_of named file symbol =
     if is_local (symbol_of object symbol) then local_target object file symbol
     else row_target named (unwrap_or (index_of named.table (name_of object symbol)) 0)
 
--- what the symbols of an input mean, and those of all inputs
-abbrev pub targets_in : Named → ℕ → List Target
-targets_in named file = map (target_of named file) (range_with_len 0 (length (file_of named.rels file).symbols))
-
-abbrev pub all_targets : Named → List (List Target)
-all_targets named = map (targets_in named) (range_with_len 0 (length named.rels))
-
 -- two targets are one symbol
 abbrev pub same_target : Target → Target → Bool
 same_target t u = t.file == u.file && t.symbol == u.symbol

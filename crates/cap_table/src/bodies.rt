@@ -21,13 +21,14 @@ use crate::wants::{CAPABILITY, is_field_kind, reloc_at};
 use cap_base::NoMemory;
 use cap_elf::{Class, RelFile, Reloc};
 use cap_layout::{Layout, Piece};
+use smallvec::SmallVec;
 use std::alloc::Global;
 use std::marker::Model;
 
-/// The bytes of a piece.
+/// The bytes of a piece. Most pieces are a word or a capability, and take no allocation of their own.
 #[derive(Drop)]
 struct Body {
-    bytes: Vec<u8>,
+    bytes: SmallVec<u8, 16>,
 }
 
 impl Model for Body {
@@ -45,7 +46,7 @@ impl Body {
     fn bytes(&self) -> &[u8]
         ensures { result.now ≡ self.now }
     {
-        &self.bytes
+        self.bytes.as_slice()
     }
 
     /// Replaces bytes from a place on.
@@ -53,7 +54,7 @@ impl Body {
         requires { at + length with.now ≤ length self.old }
         ensures { self.new ≡ put self.old at with.now }
     {
-        replace(&mut self.bytes, at, with);
+        replace(self.bytes.as_mut_slice(), at, with);
     }
 }
 
@@ -133,7 +134,7 @@ fn section(alloc: Global, rels: &[RelFile], piece: &Piece) -> Result<Body, NoMem
 {
     if is_bss(piece.class) {
         Ok(Body {
-            bytes: Vec::new(alloc),
+            bytes: SmallVec::new(alloc),
         })
     } else {
         section_part(alloc, rels, piece)
@@ -156,7 +157,7 @@ fn section_part(alloc: Global, rels: &[RelFile], piece: &Piece) -> Result<Body, 
     let start = piece.start as usize;
     let end = start + piece.size as usize;
     let content = rels[piece.file as usize].content(piece.place);
-    let mut bytes = Vec::with_capacity(alloc, piece.padded as usize)?;
+    let mut bytes = SmallVec::with_capacity(alloc, piece.padded as usize)?;
     bytes.extend_from_slice(&content[start..end])?;
     pad(&mut bytes, (piece.padded - piece.size) as usize)?;
     Ok(Body { bytes })
@@ -164,7 +165,7 @@ fn section_part(alloc: Global, rels: &[RelFile], piece: &Piece) -> Result<Body, 
 
 /// Appends so many zeros.
 #[tactic(auto, using(crate::proofs::BodyRoom::padded_by))]
-fn pad(bytes: &mut Vec<u8>, count: usize) -> Result<(), NoMemory>
+fn pad(bytes: &mut SmallVec<u8, 16>, count: usize) -> Result<(), NoMemory>
     requires { length bytes.old.items + count < 2 ^ 64 }
     ensures { OnOk result (bytes.new.items ≡ bytes.old.items ++ replicate count 0) }
 {
@@ -292,9 +293,9 @@ fn first_bytes(target: &Target, addend: i64) -> [u8; 8]
 }
 
 /// Replaces bytes from a place on.
-fn replace(bytes: &mut Vec<u8>, at: usize, with: &[u8])
-    requires { at + length with.now ≤ length bytes.old.items }
-    ensures { bytes.new.items ≡ put_bytes bytes.old.items at with.now }
+fn replace(bytes: &mut [u8], at: usize, with: &[u8])
+    requires { at + length with.now ≤ length bytes.old }
+    ensures { bytes.new ≡ put_bytes bytes.old at with.now }
 {
     let end = at + with.len();
     bytes[at..end].copy_from_slice(with);
@@ -340,6 +341,6 @@ impl Bodies {
         requires { at + length bytes.now ≤ length self.old.stubs }
         ensures { self.new ≡ record self.old { stubs = put self.old.stubs at bytes.now } }
     {
-        replace(&mut self.stubs, at as usize, bytes);
+        replace(self.stubs.as_mut_slice(), at as usize, bytes);
     }
 }

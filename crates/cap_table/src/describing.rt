@@ -39,7 +39,7 @@ pub(crate) fn cap_relocs(
     alloc: Global,
     sources: &Sources<'_>,
     layout: &Layout<'_>,
-    wants: &[Want],
+    wants: &[Want<'_>],
     count: usize,
 ) -> Result<Vec<CapReloc>, NoMemory>
     requires { layout.now.rels ≡ sources.now.rels }
@@ -55,18 +55,23 @@ pub(crate) fn cap_relocs(
     Ok(listed)
 }
 
-fn is_capability_to_address(want: &Want) -> bool
+fn is_capability_to_address(want: &Want<'_>) -> bool
     ensures { result ≡ is_described want.now.kind want.now.target }
 {
-    want.kind == CAPABILITY && is_address(&want.target)
+    want.kind == CAPABILITY && is_address(want.target)
 }
 
 #[tactic(auto, unfolding(crate::specs::Lists::cap_reloc_of))]
-fn cap_reloc(sources: &Sources<'_>, layout: &Layout<'_>, want: &Want, guess: &mut u32) -> CapReloc
+fn cap_reloc(
+    sources: &Sources<'_>,
+    layout: &Layout<'_>,
+    want: &Want<'_>,
+    guess: &mut u32,
+) -> CapReloc
     requires { layout.now.rels ≡ sources.now.rels }
     ensures { result ≡ cap_reloc_of layout.now want.now }
 {
-    let is = describe(sources, layout, &want.target, want.addend, guess);
+    let is = describe(sources, layout, want.target, want.addend, guess);
     CapReloc {
         location: want.address,
         object: is.object,

@@ -28,7 +28,7 @@ pub struct CapTable<'a> {
     plan: &'a Plan,
     cap_relocs: Vec<CapReloc>,
     relas: Vec<DynReloc>,
-    symbols: Vec<DynSymbol>,
+    symbols: Vec<DynSymbol<'a>>,
     offsets: Vec<u32>,
     dynamics: Vec<DynEntry>,
     names: Vec<u8>,
@@ -68,7 +68,7 @@ impl<'a> Model for CapTable<'a> {
 pub fn fill<'a>(
     alloc: Global,
     plan: &'a Plan,
-    sources: &Sources<'_>,
+    sources: &'a Sources<'_>,
     layout: &Layout<'_>,
 ) -> Result<CapTable<'a>, NoMemory>
     requires planned { IsPlanOf sources.now layout.now.pieces.all plan.now }
@@ -84,7 +84,7 @@ pub fn fill<'a>(
 fn fill_planned<'a>(
     alloc: Global,
     plan: &'a Plan,
-    sources: &Sources<'_>,
+    sources: &'a Sources<'_>,
     layout: &Layout<'_>,
 ) -> Result<CapTable<'a>, NoMemory>
     requires { ArePlanned sources.now layout.now plan.now }
@@ -140,7 +140,7 @@ impl<'a> CapTable<'a> {
     }
 
     /// The symbols; the first is the null symbol.
-    pub fn symbols(&self) -> &[DynSymbol]
+    pub fn symbols(&self) -> &[DynSymbol<'a>]
         ensures { result.now ≡ self.now.symbols }
     {
         &self.symbols

@@ -33,4 +33,3 @@ pub use planning::plan;
 pub use records::{DynEntry, DynSymbol};
 pub use sources::Sources;
 pub use target::{Step, Target};
-pub use wants::Want;

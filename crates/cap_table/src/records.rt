@@ -1,12 +1,11 @@
 //! Records of the linked file.
 
-use cap_base::Name;
 use std::marker::Model;
 
 /// A symbol of the linked file (Elf64_Sym).
 #[derive(Drop)]
-pub struct DynSymbol {
-    pub name: Name,
+pub struct DynSymbol<'a> {
+    pub name: &'a [u8],
     /// STB_GLOBAL 1, STB_WEAK 2; 0 for the null symbol.
     pub binding: u8,
     /// STT_NOTYPE 0, STT_OBJECT 1, STT_FUNC 2.
@@ -21,12 +20,12 @@ pub struct DynSymbol {
     pub size: u64,
 }
 
-impl Model for DynSymbol {
+impl<'a> Model for DynSymbol<'a> {
     ghost use Rattle.cap_table.specs.Lists.{DynSymbolValue};
 
     ghost Value = { DynSymbolValue };
 
-    ghost view = { λ s. record { name = s.name; binding = s.binding; kind = s.kind; visibility = s.visibility; section = s.section; value = s.value; size = s.size } };
+    ghost view = { λ s. record { name = s.name.now; binding = s.binding; kind = s.kind; visibility = s.visibility; section = s.section; value = s.value; size = s.size } };
 }
 
 /// An entry of the dynamic table (Elf64_Dyn).

@@ -24,7 +24,7 @@ pub(crate) fn relas(
     numbers: &SymbolNumbers<'_>,
     sources: &Sources<'_>,
     layout: &Layout<'_>,
-    wants: &[Want],
+    wants: &[Want<'_>],
     count: usize,
 ) -> Result<Vec<DynReloc>, NoMemory>
     requires { layout.now.rels ≡ sources.now.rels }
@@ -41,10 +41,10 @@ pub(crate) fn relas(
 }
 
 /// Whether a relocation is left to load.
-fn is_left(want: &Want) -> bool
+fn is_left(want: &Want<'_>) -> bool
     ensures { result ≡ is_relocated want.now.kind want.now.target }
 {
-    is_dynamic(&want.target) || (want.kind == WORD && is_address(&want.target))
+    is_dynamic(want.target) || (want.kind == WORD && is_address(want.target))
 }
 
 #[tactic(auto, unfolding(crate::specs::Lists::dyn_reloc_of))]
@@ -52,13 +52,13 @@ fn dyn_reloc(
     numbers: &SymbolNumbers<'_>,
     sources: &Sources<'_>,
     layout: &Layout<'_>,
-    want: &Want,
+    want: &Want<'_>,
     guess: &mut u32,
 ) -> DynReloc
     requires { layout.now.rels ≡ sources.now.rels }
     ensures { result ≡ dyn_reloc_of numbers.now layout.now want.now }
 {
-    if is_dynamic(&want.target) {
+    if is_dynamic(want.target) {
         DynReloc {
             slot: want.address,
             kind: want.kind,
@@ -78,11 +78,11 @@ fn dyn_reloc(
 }
 
 /// The address that a want names, as an addend. The guess is the piece that was found last.
-fn address(sources: &Sources<'_>, layout: &Layout<'_>, want: &Want, guess: &mut u32) -> i64
+fn address(sources: &Sources<'_>, layout: &Layout<'_>, want: &Want<'_>, guess: &mut u32) -> i64
     requires { layout.now.rels ≡ sources.now.rels }
     ensures { result ≡ cast_signed w64 (unwrap_or (point_of layout.now want.now.target.file want.now.target.symbol want.now.addend) 0) }
 {
-    point(sources, layout, &want.target, want.addend, guess)
+    point(sources, layout, want.target, want.addend, guess)
         .unwrap_or(0)
         .cast_signed()
 }

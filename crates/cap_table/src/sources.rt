@@ -1,11 +1,12 @@
 //! The relocatable inputs with the table of their names.
 
-ghost use Rattle.std.specs.Prelude.{◌≡◌, ◌<◌, false, length, unwrap_or, IfOk};
+ghost use Rattle.std.specs.Prelude.{◌≡◌, ◌<◌, false, Some, length, slice_get, unwrap_or, IfOk, OnOk};
 ghost use Rattle.cap_elf.specs.RelObject.{file_of, symbol_of, name_of};
 ghost use Rattle.cap_syms.specs.Occurrences.{is_local};
 ghost use Rattle.cap_syms.specs.Resolved.{index_of};
 ghost use Rattle.cap_syms.specs.IsResolved.{IsResolved};
-ghost use Rattle.cap_table.specs.Targets.{Named, class_of_place, section_size_of, merged_size as merged_size_of, local_bound as local_bound_of, row_target as row_target_of, local_target as local_target_of, target_of, targets_in, all_targets};
+ghost use Rattle.cap_table.specs.Targets.{Named, class_of_place, section_size_of, merged_size as merged_size_of, local_bound as local_bound_of, row_target as row_target_of, local_target as local_target_of, target_of};
+ghost use Rattle.cap_table.specs.Standing.{Keeps, HaveRows, StandFor, StandForAll};
 
 use crate::target::Target;
 use cap_base::NoMemory;
@@ -14,50 +15,51 @@ use cap_syms::{Bound, Shape, Table};
 use std::alloc::Global;
 use std::marker::Model;
 
-/// What the symbols of one input mean, by their indices.
+/// Where what the symbols of one input mean stands among the targets, by their indices.
 #[derive(Drop)]
-struct FileTargets {
-    targets: Vec<Target>,
+struct Places {
+    at: Vec<u32>,
 }
 
-impl Model for FileTargets {
-    ghost use Rattle.std.specs.Prelude.{List};
-    ghost use Rattle.cap_table.specs.declared.target.Target.{Target as TargetValue};
+impl Model for Places {
+    ghost use Rattle.std.specs.Prelude.{List, ℕ};
 
-    ghost Value = { List TargetValue };
+    ghost Value = { List ℕ };
 
-    ghost view = { λ f. f.targets.items };
+    ghost view = { λ p. p.at.items };
 }
 
-impl FileTargets {
+impl Places {
     ghost use Rattle.std.specs.Prelude.{slice_index_or};
 
-    fn of(&self, symbol: u32) -> &Target
+    fn of(&self, symbol: u32) -> u32
         requires { symbol < length self.now }
-        ensures { result.now ≡ slice_index_or self.now symbol result.now }
+        ensures { result ≡ slice_index_or self.now symbol 0 }
     {
-        &self.targets[symbol as usize]
+        self.at[symbol as usize]
     }
 }
 
-/// The relocatable inputs, the table of their names, and what each symbol means when a relocation names it.
+/// The relocatable inputs, the table of their names, and what each symbol means when a relocation names it: what each row
+/// of the table means stands once, by the row, and behind all rows what each local symbol means.
 #[derive(Drop)]
 pub struct Sources<'a> {
     rels: &'a [RelFile],
     table: &'a Table<'a>,
-    targets: Vec<FileTargets>,
+    targets: Vec<Target>,
+    places: Vec<Places>,
 }
 
 impl<'a> Model for Sources<'a> {
-    ghost use Rattle.std.specs.Prelude.{◌≡◌};
-    ghost use Rattle.cap_table.specs.Targets.{Named, all_targets};
+    ghost use Rattle.cap_table.specs.Targets.{Named};
+    ghost use Rattle.cap_table.specs.Standing.{StandForAll};
     ghost use Rattle.cap_syms.specs.IsResolved.{IsResolved};
 
     ghost Value = { Named };
 
     ghost view = { λ s. record { rels = s.rels.now; table = s.table.now } };
 
-    ghost invariant = { λ s. IsResolved s.rels.now s.table.now × (s.targets.items ≡ all_targets (record { rels = s.rels.now; table = s.table.now })) };
+    ghost invariant = { λ s. IsResolved s.rels.now s.table.now × StandForAll (record { rels = s.rels.now; table = s.table.now }) s.targets.items s.places.items };
 }
 
 // The class of the section where a symbol is placed, and its size.
@@ -159,51 +161,101 @@ fn row_of(rels: &[RelFile], table: &Table<'_>, file: u32, symbol: u32) -> u32
         .unwrap()
 }
 
+// What the rows of the table mean.
+#[tactic(auto, using(crate::proofs::SourceTargets::numbered_more))]
+fn row_targets(alloc: Global, rels: &[RelFile], table: &Table<'_>) -> Result<Vec<Target>, NoMemory>
+    requires resolved { IsResolved rels.now table.now }
+    ensures { IfOk result (λ targets. HaveRows (record { rels = rels.now; table = table.now }) targets.items) }
+{
+    let mut targets = Vec::with_capacity(alloc, table.len() as usize)?;
+    for row in 0..table.len() {
+        targets.push(row_target(rels, table, row))?;
+    }
+    Ok(targets)
+}
+
+// Appends what a local symbol means.
+#[tactic(auto, using(crate::proofs::SourceTargets::keeps_more, crate::proofs::SourceTargets::stands_last))]
+fn local_place(
+    object: &RelFile,
+    file: u32,
+    symbol: u32,
+    targets: &mut Vec<Target>,
+) -> Result<u32, NoMemory>
+    requires { symbol < length object.now.symbols }
+    ensures place { IfOk result (λ place. slice_get targets.new.items place ≡ Some (local_target_of object.now file symbol)) }
+    ensures keeps { OnOk result (Keeps targets.old.items targets.new.items) }
+{
+    let place = u32::try_from(targets.len()).map_err(|_| NoMemory)?;
+    targets.push(local_target(object, file, symbol))?;
+    Ok(place)
+}
+
+// Where what a symbol means stands, once it does.
 #[tactic(auto, unfolding(crate::specs::Targets::target_of))]
-fn symbol_target(rels: &[RelFile], table: &Table<'_>, file: u32, symbol: u32) -> Target
+fn symbol_place(
+    rels: &[RelFile],
+    table: &Table<'_>,
+    file: u32,
+    symbol: u32,
+    targets: &mut Vec<Target>,
+) -> Result<u32, NoMemory>
     requires resolved { IsResolved rels.now table.now }
     requires file { file < length rels.now }
     requires symbol { symbol < length (file_of rels.now file).symbols }
-    ensures { result ≡ target_of (record { rels = rels.now; table = table.now }) file symbol }
+    requires rows { HaveRows (record { rels = rels.now; table = table.now }) targets.old.items }
+    ensures place { IfOk result (λ place. slice_get targets.new.items place ≡ Some (target_of (record { rels = rels.now; table = table.now }) file symbol)) }
+    ensures keeps { OnOk result (Keeps targets.old.items targets.new.items) }
 {
     let object = &rels[file as usize];
     if object.symbols()[symbol as usize].binding == 0 {
-        local_target(object, file, symbol)
+        local_place(object, file, symbol, targets)
     } else {
-        row_target(rels, table, row_of(rels, table, file, symbol))
+        Ok(row_of(rels, table, file, symbol))
     }
 }
 
-#[tactic(auto, using(crate::proofs::SourceTargets::numbered_more))]
-fn file_targets(
+// The same of all symbols of an input.
+fn file_places(
     alloc: Global,
     rels: &[RelFile],
     table: &Table<'_>,
     file: u32,
-) -> Result<FileTargets, NoMemory>
+    targets: &mut Vec<Target>,
+) -> Result<Places, NoMemory>
     requires resolved { IsResolved rels.now table.now }
     requires file { file < length rels.now }
-    ensures { IfOk result (λ targets. targets ≡ targets_in (record { rels = rels.now; table = table.now }) file) }
+    requires rows { HaveRows (record { rels = rels.now; table = table.now }) targets.old.items }
+    ensures places { IfOk result (λ places. StandFor (record { rels = rels.now; table = table.now }) file targets.new.items places) }
+    ensures keeps { OnOk result (Keeps targets.old.items targets.new.items) }
 {
     let count = rels[file as usize].symbols().len() as u32;
-    let mut targets = Vec::with_capacity(alloc, count as usize)?;
+    let mut at = Vec::with_capacity(alloc, count as usize)?;
     for symbol in 0..count {
-        targets.push(symbol_target(rels, table, file, symbol))?;
+        let place = symbol_place(rels, table, file, symbol, targets)?;
+        at.push(place)?;
     }
-    Ok(FileTargets { targets })
+    Ok(Places { at })
 }
 
-#[tactic(auto, using(crate::proofs::SourceTargets::numbered_more))]
-fn targets(alloc: Global, rels: &[RelFile], table: &Table<'_>) -> Result<Vec<FileTargets>, NoMemory>
+// The same of all inputs.
+fn all_places(
+    alloc: Global,
+    rels: &[RelFile],
+    table: &Table<'_>,
+    targets: &mut Vec<Target>,
+) -> Result<Vec<Places>, NoMemory>
     requires resolved { IsResolved rels.now table.now }
-    ensures { IfOk result (λ targets. targets.items ≡ all_targets (record { rels = rels.now; table = table.now })) }
+    requires rows { HaveRows (record { rels = rels.now; table = table.now }) targets.old.items }
+    ensures { IfOk result (λ places. StandForAll (record { rels = rels.now; table = table.now }) targets.new.items places.items) }
 {
     let count = u32::try_from(rels.len()).map_err(|_| NoMemory)?;
-    let mut targets = Vec::with_capacity(alloc, count as usize)?;
+    let mut places = Vec::with_capacity(alloc, count as usize)?;
     for file in 0..count {
-        targets.push(file_targets(alloc, rels, table, file)?)?;
+        let one = file_places(alloc, rels, table, file, targets)?;
+        places.push(one)?;
     }
-    Ok(targets)
+    Ok(places)
 }
 
 impl<'a> Sources<'a> {
@@ -220,11 +272,13 @@ impl<'a> Sources<'a> {
         requires { IsResolved rels.now table.now }
         ensures { IfOk result (λ s. s ≡ record { rels = rels.now; table = table.now }) }
     {
-        let targets = targets(alloc, rels, table)?;
+        let mut targets = row_targets(alloc, rels, table)?;
+        let places = all_places(alloc, rels, table, &mut targets)?;
         Ok(Sources {
             rels,
             table,
             targets,
+            places,
         })
     }
 
@@ -259,7 +313,8 @@ impl<'a> Sources<'a> {
         requires symbol { symbol < length (file_of self.now.rels file).symbols }
         ensures { result.now ≡ target_of self.now file symbol }
     {
-        self.targets[file as usize].of(symbol)
+        let place = self.places[file as usize].of(symbol);
+        &self.targets[place as usize]
     }
 
     /// What the name of a row means.

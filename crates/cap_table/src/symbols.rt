@@ -10,7 +10,7 @@ use crate::meaning::{interval, is_absolute};
 use crate::records::DynSymbol;
 use crate::sources::Sources;
 use crate::target::Target;
-use cap_base::{Name, NoMemory};
+use cap_base::NoMemory;
 use cap_elf::Class;
 use cap_layout::Layout;
 use cap_syms::{Entry, Shape};
@@ -32,30 +32,30 @@ const ABSOLUTE: u16 = 0xfff1;
 const PRESENT: u16 = 1;
 
 /// The null symbol, and the symbols of these rows.
-pub(crate) fn symbols(
+pub(crate) fn symbols<'a>(
     alloc: Global,
-    sources: &Sources<'_>,
+    sources: &'a Sources<'_>,
     layout: &Layout<'_>,
     rows: &[u32],
-) -> Result<Vec<DynSymbol>, NoMemory>
+) -> Result<Vec<DynSymbol<'a>>, NoMemory>
     requires rels { layout.now.rels ≡ sources.now.rels }
     requires rows { All (λ row. row < length sources.now.table) rows.now }
     ensures { IfOk result (λ listed. listed.items ≡ symbols_of sources.now rows.now layout.now) }
 {
     let mut listed = Vec::with_capacity(alloc, rows.len() + 1)?;
     let mut guess = 0;
-    listed.push(null_symbol(alloc))?;
+    listed.push(null_symbol())?;
     for row in rows {
-        listed.push(symbol(alloc, sources, layout, *row, &mut guess)?)?;
+        listed.push(symbol(sources, layout, *row, &mut guess))?;
     }
     Ok(listed)
 }
 
-fn null_symbol(alloc: Global) -> DynSymbol
+fn null_symbol<'a>() -> DynSymbol<'a>
     ensures { result ≡ null_dyn_symbol }
 {
     DynSymbol {
-        name: Name::empty(alloc),
+        name: &[],
         binding: 0,
         kind: NO_TYPE,
         visibility: 0,
@@ -66,25 +66,24 @@ fn null_symbol(alloc: Global) -> DynSymbol
 }
 
 /// The symbol of a row. The guess is the piece that was found last.
-fn symbol(
-    alloc: Global,
-    sources: &Sources<'_>,
+fn symbol<'a>(
+    sources: &'a Sources<'_>,
     layout: &Layout<'_>,
     row: u32,
     guess: &mut u32,
-) -> Result<DynSymbol, NoMemory>
+) -> DynSymbol<'a>
     requires rels { layout.now.rels ≡ sources.now.rels }
     requires row { row < length sources.now.table }
-    ensures { IfOk result (λ s. s ≡ dyn_symbol sources.now layout.now row) }
+    ensures { result ≡ dyn_symbol sources.now layout.now row }
 {
     let table = sources.table();
     let entry = table.entry(row);
-    let name = Name::of(alloc, table.name(row))?;
+    let name = table.name(row);
     if is_present(&entry.shape) {
         let target = sources.row(row);
-        Ok(present(sources, layout, name, &entry, &target, guess))
+        present(sources, layout, name, &entry, &target, guess)
     } else {
-        Ok(absent(name, &entry))
+        absent(name, &entry)
     }
 }
 
@@ -96,16 +95,16 @@ fn is_present(shape: &Shape) -> bool
 
 /// A symbol that is there: a function where it stands in code, else an object.
 #[tactic(auto, unfolding(crate::specs::Lists::present_symbol))]
-fn present(
+fn present<'a>(
     sources: &Sources<'_>,
     layout: &Layout<'_>,
-    name: Name,
+    name: &'a [u8],
     entry: &Entry,
     target: &Target,
     guess: &mut u32,
-) -> DynSymbol
+) -> DynSymbol<'a>
     requires rels { layout.now.rels ≡ sources.now.rels }
-    ensures { (bound : Bound) → result ≡ present_symbol layout.now (record { name = name; entry = entry.now; bound = bound }) target.now }
+    ensures { (bound : Bound) → result ≡ present_symbol layout.now (record { name = name.now; entry = entry.now; bound = bound }) target.now }
 {
     let (at, len) = interval(sources, layout, target, guess).unwrap_or((0, 0));
     let absolute = is_absolute(target.as_is.place);
@@ -147,8 +146,8 @@ fn kind(class: Class) -> u8
 
 /// A symbol that is left to load.
 #[tactic(auto, unfolding(crate::specs::Lists::absent_symbol))]
-fn absent(name: Name, entry: &Entry) -> DynSymbol
-    ensures { (bound : Bound) → result ≡ absent_symbol (record { name = name; entry = entry.now; bound = bound }) }
+fn absent<'a>(name: &'a [u8], entry: &Entry) -> DynSymbol<'a>
+    ensures { (bound : Bound) → result ≡ absent_symbol (record { name = name.now; entry = entry.now; bound = bound }) }
 {
     DynSymbol {
         name,

@@ -21,12 +21,12 @@ pub struct Target {
     /// The row of its name, unless it is local.
     pub row: Option<u32>,
     pub as_is: Symbol,
-    /// The class of its section; Bss for a common symbol, Dropped for a symbol of no section.
-    pub class: Class,
     /// The size of its section, 0 where it has none.
     pub section_size: u64,
     /// Its own size; the merged one for a common symbol.
     pub size: u64,
+    /// The class of its section; Bss for a common symbol, Dropped for a symbol of no section.
+    pub class: Class,
     pub bound: Bound,
 }
 

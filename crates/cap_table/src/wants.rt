@@ -16,6 +16,7 @@ use cap_base::NoMemory;
 use cap_elf::Reloc;
 use cap_layout::Layout;
 use std::alloc::Global;
+use std::marker::Model;
 
 /// R_RISCV_64: an address of eight bytes.
 pub(crate) const WORD: u32 = 2;
@@ -27,21 +28,29 @@ pub(crate) const CAPABILITY: u32 = 193;
 pub(crate) const SLOT_SIZE: u64 = 16;
 
 /// A field of the linked file that wants a value: its type of relocation, its address, and what it refers to.
-#[derive(Clone, Copy, Debug, PartialEq, Eq)]
-pub struct Want {
-    pub kind: u32,
-    pub address: u64,
-    pub target: Target,
-    pub addend: i64,
+#[derive(Drop)]
+pub(crate) struct Want<'a> {
+    pub(crate) kind: u32,
+    pub(crate) address: u64,
+    pub(crate) target: &'a Target,
+    pub(crate) addend: i64,
+}
+
+impl<'a> Model for Want<'a> {
+    ghost use Rattle.cap_table.specs.Lists.{Want as Wanted};
+
+    ghost Value = { Wanted };
+
+    ghost view = { λ w. record { kind = w.kind; address = w.address; target = w.target.now; addend = w.addend } };
 }
 
 /// Each slot in order, and then each field in order of the walk.
-pub(crate) fn all_wants(
+pub(crate) fn all_wants<'a>(
     alloc: Global,
-    plan: &Plan,
-    sources: &Sources<'_>,
+    plan: &'a Plan,
+    sources: &'a Sources<'_>,
     layout: &Layout<'_>,
-) -> Result<Vec<Want>, NoMemory>
+) -> Result<Vec<Want<'a>>, NoMemory>
     requires { ArePlanned sources.now layout.now plan.now }
     ensures { IfOk result (λ ws. ws.items ≡ wants sources.now plan.now layout.now) }
 {
@@ -52,7 +61,11 @@ pub(crate) fn all_wants(
 }
 
 /// Appends each slot.
-fn push_slots(wants: &mut Vec<Want>, plan: &Plan, layout: &Layout<'_>) -> Result<(), NoMemory>
+fn push_slots<'a>(
+    wants: &mut Vec<Want<'a>>,
+    plan: &'a Plan,
+    layout: &Layout<'_>,
+) -> Result<(), NoMemory>
     requires { layout.now.parts.slots_at + 16 * length plan.now.slots ≤ 2 ^ 26 }
     ensures { OnOk result (wants.new.items ≡ wants.old.items ++ slot_wants plan.now layout.now) }
 {
@@ -61,7 +74,7 @@ fn push_slots(wants: &mut Vec<Want>, plan: &Plan, layout: &Layout<'_>) -> Result
         wants.push(Want {
             kind: CAPABILITY,
             address: slots_at + SLOT_SIZE * k as u64,
-            target: *target,
+            target,
             addend: 0,
         })?;
     }
@@ -69,10 +82,10 @@ fn push_slots(wants: &mut Vec<Want>, plan: &Plan, layout: &Layout<'_>) -> Result
 }
 
 /// Appends each relocated field.
-fn push_fields(
-    wants: &mut Vec<Want>,
+fn push_fields<'a>(
+    wants: &mut Vec<Want<'a>>,
     plan: &Plan,
-    sources: &Sources<'_>,
+    sources: &'a Sources<'_>,
     layout: &Layout<'_>,
 ) -> Result<(), NoMemory>
     requires { All (IsStepOf sources.now layout.now.pieces.all) plan.now.steps }
@@ -85,9 +98,9 @@ fn push_fields(
 }
 
 /// Appends the field of a step, where it is relocated when the file is loaded, or holds a fixed value.
-fn push_field(
-    wants: &mut Vec<Want>,
-    sources: &Sources<'_>,
+fn push_field<'a>(
+    wants: &mut Vec<Want<'a>>,
+    sources: &'a Sources<'_>,
     layout: &Layout<'_>,
     step: &Step,
 ) -> Result<(), NoMemory>
@@ -99,7 +112,7 @@ fn push_field(
         wants.push(Want {
             kind: reloc.kind,
             address: address_in(layout, step, &reloc),
-            target: *sources.target_ref(step.file, reloc.symbol),
+            target: sources.target_ref(step.file, reloc.symbol),
             addend: reloc.addend,
         })?;
     }

@@ -13,7 +13,7 @@ use Rattle.cap_syms.proofs.seen.tally_all.Goals as goal
 
 pub loop-file-init : goal.loop-file-init
 loop-file-init c = (
-  ap (λ rows. fold with_input rows (enumerate_from 0 c.args.rels.now)) c.new-seen.ensures ∙ all-tallied c.args.rels.now,
+  ap (λ rows. fold with_input rows (enumerate_from 0 c.args.rels.now)) c.in_ok-seen.ensures ∙ all-tallied c.args.rels.now,
   λ k lt. absurd (omega (arith, lt)),
 )
 
@@ -23,12 +23,12 @@ loop-file-preserved c =
     let i : ℕ = c.loop-file.file in
     let rel : RelObject = c.index-rels-file.result in
     let here : file_of rels i ≡ rel = get_or_default rels i no_object rel c.loop-file-test.true ∙ sym c.index-rels-file.is in (
-      input-more rels c.loop-file.seen c.in_ok-seen.seen (tallied (occurrences rels)) i rel c.loop-file-test.true here c.in_ok-seen.ensures.seen c.loop-file.invariant.0,
+      input-more rels c.loop-file.seen c.note_input.new.self (tallied (occurrences rels)) i rel c.loop-file-test.true here c.in_ok-note_input.ensures.seen c.loop-file.invariant.0,
       λ k lt. elim (cases_lt k i) [
         | inl before ↦ c.loop-file.invariant.1 k before
         | inr from ↦
             let same : i ≡ k = omega (arith, lt, from) in
-            subst (λ (n : ℕ). IsRelRead (file_of rels n)) same (subst IsRelRead (sym here) c.in_ok-seen.ensures.sound)
+            subst (λ (n : ℕ). IsRelRead (file_of rels n)) same (subst IsRelRead (sym here) c.note_input.ensures.sound)
       ],
     )
 

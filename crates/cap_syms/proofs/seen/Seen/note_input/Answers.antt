@@ -18,9 +18,9 @@ loop-i-preserved c =
     let same = c.symbols-symbols.ensures.symbols in
     let lt : i < length p.1.symbols = omega (arith, ap length same, c.loop-i-test.true) in
     let made : Symbol → Occurrence = λ s. record { name = name_of p.1 i; file = p.0; symbol = i; as_is = s } in
-    symbol-more p c.loop-i.seen c.in_ok-seen.seen (with_input c.args.self p) i lt (c.in_ok-seen.ensures ∙ ap (λ xs. noted_if_outside c.loop-i.seen (made (get_or xs i (null_symbol 0)))) same) c.loop-i.invariant
+    symbol-more p c.loop-i.self c.note_symbol.new.self (with_input c.args.self.now p) i lt (c.in_ok-note_symbol.ensures ∙ ap (λ xs. noted_if_outside c.loop-i.self (made (get_or xs i (null_symbol 0)))) same) c.loop-i.invariant
 
 pub returns-clause-seen : goal.returns-clause-seen
 returns-clause-seen c =
     let p : ℕ × RelObject = (c.args.file, c.args.rel.now) in
-    symbol-done p c.loop-i.seen (with_input c.args.self p) c.loop-i.i (omega (arith, ap length c.symbols-symbols.ensures.symbols, c.loop-i-test.false)) c.loop-i.invariant
+    symbol-done p c.loop-i.self (with_input c.args.self.now p) c.loop-i.i (omega (arith, ap length c.symbols-symbols.ensures.symbols, c.loop-i-test.false)) c.loop-i.invariant

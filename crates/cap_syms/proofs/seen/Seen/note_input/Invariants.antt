@@ -6,4 +6,4 @@ use Rattle.cap_syms.proofs.seen.Seen.note_input.Given as goal
 -- the symbols that are left lead to the same rows
 abbrev pub invariant-loop-i : goal.invariant-loop-i
 invariant-loop-i l =
-    fold noted_if_outside l.seen (drop l.i (symbols_in (l.fn.file, l.rel))) ≡ with_input l.fn.self (l.fn.file, l.rel)
+    fold noted_if_outside l.self (drop l.i (symbols_in (l.fn.file, l.rel))) ≡ with_input l.fn.self (l.fn.file, l.rel)
