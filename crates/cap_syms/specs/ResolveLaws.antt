@@ -1,5 +1,5 @@
 -- What holds of every table of names, said of its inputs.
-use Rattle.std.specs.Prelude.{◌≡◌, ℕ, ◌≤◌, Bool, List, length, All, Ok}
+use Rattle.std.specs.Prelude.{Bool, List, All}
 use Rattle.cap_elf.specs.RelObject.{RelObject}
 use Rattle.cap_elf.specs.IsRelRead.{IsRelRead}
 use Rattle.cap_syms.specs.Resolved.{Resolved, IsTableOf}

@@ -1,6 +1,5 @@
 -- What relocations refer to.
-use Rattle.std.specs.Prelude.{ℕ, Bool, true, false, not, ◌&&◌, ◌||◌, ◌==◌, nat_le, if◌then◌else◌, ℤ, pos, ◌+ℤ◌, List, map, length, Some, None, unwrap_or}
-use Rattle.std.specs.List.{range_with_len}
+use Rattle.std.specs.Prelude.{ℕ, Bool, true, false, not, ◌&&◌, ◌||◌, ◌==◌, nat_le, if◌then◌else◌, ℤ, pos, ◌+ℤ◌, List, Some, None, unwrap_or}
 use Rattle.std.specs.Option.{option_map_or}
 use Rattle.cap_elf.specs.declared.records.Class.{Class}
 use Rattle.cap_elf.specs.declared.records.Class.TheVariants.{Bss, Dropped}
