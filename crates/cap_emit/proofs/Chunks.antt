@@ -1,7 +1,9 @@
 -- Chunks that are written one after the other.
-use Rattle.std.proofs.Common.{◌≡◌, ℕ, ◌+◌, ◌-◌, ◌<◌, ◌≤◌, Bool, true, false, cond, if◌then◌else◌, List, [], ◌∷◌, ◌++◌, map, filter, length, get_or, drop, refl, sym, ap, ◌∙◌, arith, length-append, append-nil}
+use Rattle.std.proofs.Common.{◌≡◌, ℕ, ◌+◌, ◌-◌, ◌<◌, ◌≤◌, Bool, true, false, cond, if◌then◌else◌, List, [], ◌∷◌, ◌++◌, map, filter, length, get_or, take, drop, suc, refl, sym, ap, ◌∙◌, arith, length-append, append-nil}
 use Rattle.std.specs.List.{zip}
-use Rattle.std.proofs.lemmas.List.{length-replicate, append_assoc, drop_more, drop_all}
+use Rattle.std.proofs.lemmas.Bool.{false_from_ne_true}
+use Rattle.std.proofs.lemmas.List.{length-replicate, length-take, length-drop, append_assoc, drop_more, get_or-take, get_or-drop, take-append-drop}
+use Rattle.std.proofs.lemmas.List.Elements.{filter-append}
 use Rattle.std.proofs.lemmas.Slice.Zip.{get_or-zip, length-zip}
 use Rattle.cap_elf.specs.declared.records.Class.{Class}
 use Rattle.cap_elf.specs.Classes.{same_class}
@@ -9,6 +11,7 @@ use Rattle.cap_layout.specs.declared.piece.Piece.{Piece}
 use Rattle.cap_layout.specs.Pieces.{no_piece}
 use Rattle.cap_layout.specs.Points.{Laid}
 use Rattle.cap_layout.specs.IsPiece.{IsLaid}
+use Rattle.cap_layout.specs.ByClass.{IsSpanOf}
 use Rattle.cap_table.specs.Bodies.{BodiesValue, zeros}
 use Rattle.cap_emit.specs.Spread.{Chunk, spread, AreApart}
 use Rattle.cap_emit.specs.Written.{padded, with_chunk, with_chunks, piece_chunk, chunks_from, class_chunks}
@@ -48,18 +51,58 @@ chunks_more laid bodies class i file next total laid_is b lt e so_far =
     let rest = chunks_from laid bodies class (i + 1) in
     ap (λ f. with_chunks f rest) e ∙ sym (with_append file (piece_chunk laid bodies class i) rest) ∙ ap (with_chunks file) (sym (from_more laid bodies class i laid_is.count b lt)) ∙ so_far
 
--- all pieces are left at first
-pub chunks_first : (laid : Laid) (bodies : BodiesValue) (class : Class) (file : List ℕ) → with_chunks file (chunks_from laid bodies class 0) ≡ with_chunks file (class_chunks laid bodies class)
-unfolding chunks_from class_chunks
-chunks_first laid bodies class file = refl
+-- ---- the pieces before the first of the class and behind the last leave nothing
+none_kept : {X : Type 0} (p : X → Bool) (xs : List X) (d : X) → ((k : ℕ) → k < length xs → p (get_or xs k d) ≡ false) → filter p xs ≡ []
+none_kept p [] d h = refl
+none_kept p (x ∷ xs) d h =
+    ap (λ b. cond b (x ∷ filter p xs) (filter p xs)) (h 0 (omega arith)) ∙ none_kept p xs d (λ k lt. h (suc k) (omega (arith, lt)))
 
--- and none in the end
-pub chunks_done : (laid : Laid) (bodies : BodiesValue) (class : Class) (i : ℕ) (file total : List ℕ) → length laid.pieces.all ≤ i → with_chunks file (chunks_from laid bodies class i) ≡ total → file ≡ total
-unfolding chunks_from
-chunks_done laid bodies class i file total le so_far =
-    let inner = zip laid.addresses bodies.pieces in
-    let none : drop i (zip laid.pieces.all inner) ≡ [] = drop_all i (zip laid.pieces.all inner) (omega (arith, length-zip laid.pieces.all inner, le)) in
-    ap (λ xs. with_chunks file (map (λ q. q.1) (filter (λ q. same_class q.0.class class) xs))) (sym none) ∙ so_far
+piece_in : (ps : List Piece) (cs : List Chunk) (k : ℕ) → k < length (zip ps cs) → (get_or (zip ps cs) k no_place).0 ≡ get_or ps k no_piece
+unfolding no_place
+piece_in ps cs k lt =
+    let long = length-zip ps cs in
+    ap (λ q. q.0) (get_or-zip ps cs k no_place (omega (arith, lt, long)) (omega (arith, lt, long)))
+
+module _ (laid : Laid) (bodies : BodiesValue) (class : Class) (first end : ℕ) (span : IsSpanOf laid.pieces.all class first end) where
+  abbrev inner : List Chunk
+  inner = zip laid.addresses bodies.pieces
+
+  abbrev places : List (Piece × Chunk)
+  places = zip laid.pieces.all inner
+
+  abbrev own : Piece × Chunk → Bool
+  own q = same_class q.0.class class
+
+  other : (k : ℕ) → k < length places → (same_class (get_or laid.pieces.all k no_piece).class class ≡ true → ⊥) → own (get_or places k no_place) ≡ false
+  other k lt h = false_from_ne_true (own (get_or places k no_place)) (λ e. h (sym (ap (λ (p : Piece). same_class p.class class) (piece_in laid.pieces.all inner k lt)) ∙ e))
+
+  front : filter own (take first places) ≡ []
+  front = none_kept own (take first places) no_place (λ k lt.
+      let size = length-take first places in
+      let inside : k < first = omega (arith, lt, size) in
+      let within : k < length places = omega (arith, lt, size) in
+      ap own (get_or-take first places k no_place inside)
+      ∙ other k within (λ e. let up = span.from k (omega (arith, within, length-zip laid.pieces.all inner)) e in omega (arith, up, inside)))
+
+  back : filter own (drop end places) ≡ []
+  back = none_kept own (drop end places) no_place (λ k lt.
+      let within : end + k < length places = omega (arith, lt, length-drop end places) in
+      ap own (get_or-drop end places k no_place)
+      ∙ other (end + k) within (λ e. let low = span.before (end + k) (omega (arith, within, length-zip laid.pieces.all inner)) e in omega (arith, low)))
+
+  -- all pieces of the class are left at first
+  pub chunks_first : (file : List ℕ) → with_chunks file (chunks_from laid bodies class first) ≡ with_chunks file (class_chunks laid bodies class)
+  unfolding chunks_from class_chunks
+  chunks_first file =
+      sym (ap (λ xs. with_chunks file (map (λ (q : Piece × Chunk). q.1) xs)) (ap (filter own) (sym (take-append-drop first places)) ∙ filter-append own (take first places) (drop first places) ∙ ap (λ xs. xs ++ filter own (drop first places)) front))
+
+  -- and none in the end
+  pub chunks_done : (i : ℕ) (file total : List ℕ) → i ≡ end → with_chunks file (chunks_from laid bodies class i) ≡ total → file ≡ total
+  unfolding chunks_from
+  chunks_done i file total e so_far =
+      sym (ap (λ xs. with_chunks file (map (λ (q : Piece × Chunk). q.1) xs)) back)
+      ∙ sym (ap (λ k. with_chunks file (map (λ (q : Piece × Chunk). q.1) (filter own (drop k places)))) e)
+      ∙ so_far
 
 -- chunks that are apart, written one after the other, are spread
 pub written_spread : (file : List ℕ) (at : ℕ) (cs : List Chunk) → length file ≡ at → AreApart at cs → with_chunks file cs ≡ file ++ spread at cs

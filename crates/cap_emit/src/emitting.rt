@@ -14,7 +14,7 @@ use crate::tables::{
 };
 use cap_base::NoMemory;
 use cap_elf::Class;
-use cap_layout::{Layout, Parts};
+use cap_layout::{ByClass, Layout, Parts};
 use cap_table::{Bodies, CapTable};
 use std::alloc::Global;
 
@@ -50,13 +50,19 @@ fn push_tables(
 }
 
 /// Appends the stubs and the pieces of code.
-fn push_code(file: &mut Vec<u8>, layout: &Layout<'_>, bodies: &Bodies) -> Result<(), NoMemory>
+fn push_code(
+    file: &mut Vec<u8>,
+    layout: &Layout<'_>,
+    bodies: &Bodies,
+    by_class: &ByClass<'_>,
+) -> Result<(), NoMemory>
+    requires pieces { by_class.now ≡ layout.now.pieces.all }
     requires count { length bodies.now.pieces ≡ length layout.now.pieces.all }
     ensures { OnOk result (file.new.items ≡ with_code file.old.items layout.now bodies.now) }
 {
     pad_to(file, layout.parts().stubs_at)?;
     file.extend_from_slice(bodies.stubs())?;
-    push_pieces(file, layout, bodies, Class::Code)?;
+    push_pieces(file, layout, bodies, by_class, Class::Code)?;
     Ok(())
 }
 
@@ -66,7 +72,9 @@ fn push_once_written(
     layout: &Layout<'_>,
     lists: &CapTable<'_>,
     bodies: &Bodies,
+    by_class: &ByClass<'_>,
 ) -> Result<(), NoMemory>
+    requires pieces { by_class.now ≡ layout.now.pieces.all }
     requires count { length bodies.now.pieces ≡ length layout.now.pieces.all }
     ensures { OnOk result (file.new.items ≡ with_once_written file.old.items layout.now lists.now bodies.now) }
 {
@@ -75,9 +83,9 @@ fn push_once_written(
     push_dynamics(file, lists)?;
     pad_to(file, at.slots_at)?;
     file.extend_from_slice(bodies.slots())?;
-    push_pieces(file, layout, bodies, Class::Init)?;
-    push_pieces(file, layout, bodies, Class::Fini)?;
-    push_pieces(file, layout, bodies, Class::Relro)?;
+    push_pieces(file, layout, bodies, by_class, Class::Init)?;
+    push_pieces(file, layout, bodies, by_class, Class::Fini)?;
+    push_pieces(file, layout, bodies, by_class, Class::Relro)?;
     Ok(())
 }
 
@@ -103,13 +111,14 @@ pub fn emit(
     ensures { IfOk result (λ file. file.items ≡ emit_of layout.now lists.now bodies.now flags entry) }
 {
     let at = layout.parts();
+    let by_class = ByClass::new(alloc, layout.pieces().all())?;
     let mut file = Vec::with_capacity(alloc, at.file_end as usize)?;
     push_file_header(&mut file, flags, entry)?;
     push_tables(alloc, &mut file, &at, lists)?;
-    push_pieces(&mut file, layout, bodies, Class::Ro)?;
-    push_code(&mut file, layout, bodies)?;
-    push_once_written(&mut file, layout, lists, bodies)?;
+    push_pieces(&mut file, layout, bodies, &by_class, Class::Ro)?;
+    push_code(&mut file, layout, bodies, &by_class)?;
+    push_once_written(&mut file, layout, lists, bodies, &by_class)?;
     pad_to(&mut file, at.table_end)?;
-    push_pieces(&mut file, layout, bodies, Class::Data)?;
+    push_pieces(&mut file, layout, bodies, &by_class, Class::Data)?;
     Ok(file)
 }

@@ -2,12 +2,13 @@
 
 ghost use Rattle.std.specs.Prelude.{◌≡◌, ◌<◌, length, OnOk};
 ghost use Rattle.cap_layout.specs.IsPiece.{IsLaid};
+ghost use Rattle.cap_layout.specs.ByClass.{IsSpanOf};
 ghost use Rattle.cap_emit.specs.Written.{padded, piece_chunk, class_chunks, with_chunks};
 
 use crate::tables::pad_to;
 use cap_base::NoMemory;
 use cap_elf::Class;
-use cap_layout::Layout;
+use cap_layout::{ByClass, Layout};
 use cap_table::Bodies;
 
 /// Appends a piece at its address, if it is of a class.
@@ -32,18 +33,30 @@ fn push_piece(
     Ok(())
 }
 
+/// Between which numbers the pieces of a class stand.
+fn span(layout: &Layout<'_>, by_class: &ByClass<'_>, class: Class) -> (u32, u32)
+    requires { by_class.now ≡ layout.now.pieces.all }
+    ensures { IsSpanOf layout.now.pieces.all class result.0 result.1 }
+{
+    let count = layout.pieces().len();
+    let (first, end) = by_class.span(class);
+    (first as u32, end as u32)
+}
+
 /// Appends the pieces of a class, each at its address.
-#[tactic(auto, using(crate::proofs::Chunks::chunks_more, crate::proofs::Chunks::chunks_first, crate::proofs::Chunks::chunks_done))]
 pub(crate) fn push_pieces(
     file: &mut Vec<u8>,
     layout: &Layout<'_>,
     bodies: &Bodies,
+    by_class: &ByClass<'_>,
     class: Class,
 ) -> Result<(), NoMemory>
     requires count { length bodies.now.pieces ≡ length layout.now.pieces.all }
+    requires pieces { by_class.now ≡ layout.now.pieces.all }
     ensures { OnOk result (file.new.items ≡ with_chunks file.old.items (class_chunks layout.now bodies.now class)) }
 {
-    for piece in 0..layout.pieces().len() {
+    let (first, end) = span(layout, by_class, class);
+    for piece in first..end {
         push_piece(file, layout, bodies, class, piece)?;
     }
     Ok(())

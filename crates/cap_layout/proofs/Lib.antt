@@ -11,6 +11,7 @@ pub mod PieceFacts
 pub mod PieceAll
 pub mod PieceCommons
 pub mod PieceClasses
+pub mod ClassSpans
 pub mod PieceOrders
 pub mod PieceSearch
 pub mod PieceAnswers

@@ -24,7 +24,7 @@ pub record IsIn (rels : List RelObject) (p : Piece) : Type 0 where
   pub within : p.start + p.size ≤ (section_of (file_of rels p.file) p.place).size
   pub piece : IsPiece p
 
-same_is : (a b : Class) → same_class a b ≡ true → a ≡ b
+pub same_is : (a b : Class) → same_class a b ≡ true → a ≡ b
 same_is Ro Ro h = refl
 same_is Code Code h = refl
 same_is Init Init h = refl

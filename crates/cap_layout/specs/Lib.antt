@@ -11,6 +11,7 @@ pub mod Running
 pub mod Segments
 pub mod IsPiece
 pub mod PieceOrder
+pub mod ByClass
 pub mod CommonMap
 pub mod Held
 pub mod Found

@@ -26,6 +26,7 @@
 #![tactic(auto)]
 
 mod alignment;
+mod by_class;
 mod classes;
 mod common_map;
 mod commons;
@@ -46,6 +47,7 @@ mod running;
 mod segments;
 mod stages;
 
+pub use by_class::ByClass;
 pub use cutting::pieces;
 pub use laws::layout_laws;
 pub use layout::{Layout, lay};

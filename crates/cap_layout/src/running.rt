@@ -5,6 +5,7 @@ ghost use Rattle.cap_base.specs.Steps.{Yields};
 ghost use Rattle.cap_layout.specs.IsPiece.{IsPiece};
 ghost use Rattle.cap_layout.specs.Running.{AreLow};
 
+use crate::by_class::ByClass;
 use crate::piece::Piece;
 use cap_base::Refusal;
 use cap_elf::Class;
@@ -114,7 +115,7 @@ impl Running {
 
     /// Places the pieces of a class.
     #[tactic(auto, unfolding(crate::specs::Running::with_class), using(cap_base::proofs::Walk::steps_more, crate::proofs::PlaceWalk::yields_stop))]
-    pub(crate) fn put_class(&mut self, class: Class, pieces: &[Piece]) -> Result<(), Refusal>
+    fn put_class(&mut self, class: Class, pieces: &[Piece]) -> Result<(), Refusal>
         requires { All IsPiece pieces.now }
         ensures value { Yields (λ _. self.new) result (with_class class pieces.now self.old) }
         ensures grows { OnOk result (self.old.end ≤ self.new.end) }
@@ -123,5 +124,15 @@ impl Running {
             self.put_if(class, piece)?;
         }
         Ok(())
+    }
+
+    /// The same, without going through the pieces before the first and behind the last of the class.
+    #[tactic(auto, using(crate::proofs::PlaceClasses::class_alone))]
+    pub(crate) fn put_of(&mut self, class: Class, pieces: &ByClass<'_>) -> Result<(), Refusal>
+        requires { All IsPiece pieces.now }
+        ensures value { Yields (λ _. self.new) result (with_class class pieces.now self.old) }
+        ensures grows { OnOk result (self.old.end ≤ self.new.end) }
+    {
+        self.put_class(class, pieces.of(class))
     }
 }

@@ -7,6 +7,7 @@ ghost use Rattle.cap_layout.specs.Laid.{AreSmall, ends_low};
 ghost use Rattle.cap_layout.specs.Parts.{whole_alignment, padded_ends};
 ghost use Rattle.cap_layout.specs.Segments.{tables_of, with_tables, with_read_only, with_code, has_class as has_class_in, has_class_bytes, array_first, with_array, with_relocated, with_writable, largest_of, parts_from, with_all, all_places};
 
+use crate::by_class::ByClass;
 use crate::parts::{Parts, Sizes};
 use crate::piece::Piece;
 use crate::running::Running;
@@ -60,7 +61,7 @@ fn place_tables(running: &mut Running, tables: &Tables) -> Result<(), Refusal>
 #[tactic(auto, unfolding(crate::specs::Segments::with_read_only))]
 fn place_read_only(
     running: &mut Running,
-    pieces: &[Piece],
+    pieces: &ByClass<'_>,
     sizes: &Sizes,
 ) -> Result<ReadOnly, Refusal>
     requires small { AreSmall sizes.now }
@@ -69,7 +70,7 @@ fn place_read_only(
 {
     let tables = table_places(sizes);
     place_tables(running, &tables)?;
-    running.put_class(Class::Ro, pieces)?;
+    running.put_of(Class::Ro, pieces)?;
     Ok(ReadOnly {
         tables,
         end: running.end(),
@@ -78,27 +79,31 @@ fn place_read_only(
 
 // The stubs, and instructions.
 #[tactic(auto, unfolding(crate::specs::Segments::with_code))]
-fn place_code(running: &mut Running, pieces: &[Piece], sizes: &Sizes) -> Result<CodePart, Refusal>
+fn place_code(
+    running: &mut Running,
+    pieces: &ByClass<'_>,
+    sizes: &Sizes,
+) -> Result<CodePart, Refusal>
     requires small { AreSmall sizes.now }
     requires sound { All IsPiece pieces.now }
     ensures { Yields (λ part. (running.new, part)) result (with_code pieces.now sizes.now running.old) }
 {
     let start = running.end().next_multiple_of(PAGE);
     running.reach(start + 16 * sizes.stubs)?;
-    running.put_class(Class::Code, pieces)?;
+    running.put_of(Class::Code, pieces)?;
     Ok(CodePart {
         start,
         end: running.end(),
     })
 }
 
-fn has_class(class: Class, pieces: &[Piece]) -> bool
+fn is_among(class: Class, pieces: &[Piece]) -> bool
     ensures { result ≡ has_class_in class pieces.now }
 {
     pieces.iter().any(|piece| piece.class == class)
 }
 
-fn has_bytes(class: Class, pieces: &[Piece]) -> bool
+fn are_bytes_among(class: Class, pieces: &[Piece]) -> bool
     ensures { result ≡ has_class_bytes class pieces.now }
 {
     pieces
@@ -106,8 +111,22 @@ fn has_bytes(class: Class, pieces: &[Piece]) -> bool
         .any(|piece| piece.class == class && piece.size != 0)
 }
 
+#[tactic(auto, using(crate::proofs::PlaceClasses::has_alone))]
+fn has_class(class: Class, pieces: &ByClass<'_>) -> bool
+    ensures { result ≡ has_class_in class pieces.now }
+{
+    is_among(class, pieces.of(class))
+}
+
+#[tactic(auto, using(crate::proofs::PlaceClasses::bytes_alone))]
+fn has_bytes(class: Class, pieces: &ByClass<'_>) -> bool
+    ensures { result ≡ has_class_bytes class pieces.now }
+{
+    are_bytes_among(class, pieces.of(class))
+}
+
 // An array of calls begins at a multiple of 16, and the pieces after it follow it only if it has any.
-fn begin_array(running: &mut Running, class: Class, pieces: &[Piece])
+fn begin_array(running: &mut Running, class: Class, pieces: &ByClass<'_>)
     ensures { running.new ≡ array_first class pieces.now running.old }
 {
     if has_class(class, pieces) {
@@ -117,7 +136,7 @@ fn begin_array(running: &mut Running, class: Class, pieces: &[Piece])
 
 // How many bytes an array has, from the multiple of 16 on.
 #[tactic(auto, using(crate::proofs::PlaceClasses::has_class_from_bytes))]
-fn array_size(class: Class, pieces: &[Piece], start: u64, end: u64) -> u64
+fn array_size(class: Class, pieces: &ByClass<'_>, start: u64, end: u64) -> u64
     requires { has_class_in class pieces.now ≡ true → start ≤ end }
     ensures { result ≡ (if has_class_bytes class pieces.now then end - start else 0) }
 {
@@ -130,13 +149,17 @@ fn array_size(class: Class, pieces: &[Piece], start: u64, end: u64) -> u64
 
 // An array of initial or of final calls.
 #[tactic(auto, unfolding(crate::specs::Segments::with_array))]
-fn place_array(running: &mut Running, class: Class, pieces: &[Piece]) -> Result<CallArray, Refusal>
+fn place_array(
+    running: &mut Running,
+    class: Class,
+    pieces: &ByClass<'_>,
+) -> Result<CallArray, Refusal>
     requires { All IsPiece pieces.now }
     ensures { Yields (λ array. (running.new, array)) result (with_array class pieces.now running.old) }
 {
     let at = running.end().next_multiple_of(16);
     begin_array(running, class, pieces);
-    running.put_class(class, pieces)?;
+    running.put_of(class, pieces)?;
     let size = array_size(class, pieces, at, running.end());
     Ok(CallArray { at, size })
 }
@@ -146,7 +169,7 @@ fn place_array(running: &mut Running, class: Class, pieces: &[Piece]) -> Result<
 #[tactic(auto, unfolding(crate::specs::Segments::with_relocated))]
 fn place_relocated(
     running: &mut Running,
-    pieces: &[Piece],
+    pieces: &ByClass<'_>,
     sizes: &Sizes,
 ) -> Result<Relocated, Refusal>
     requires small { AreSmall sizes.now }
@@ -160,7 +183,7 @@ fn place_relocated(
     running.reach(slots_at + 16 * sizes.slots)?;
     let init = place_array(running, Class::Init, pieces)?;
     let fini = place_array(running, Class::Fini, pieces)?;
-    running.put_class(Class::Relro, pieces)?;
+    running.put_of(Class::Relro, pieces)?;
     running.reach(repr_len(running.end().next_multiple_of(PAGE)))?;
     Ok(Relocated {
         start,
@@ -173,13 +196,13 @@ fn place_relocated(
 
 // Data that may be written; that of zeros alone has no bytes in the file.
 #[tactic(auto, unfolding(crate::specs::Segments::with_writable))]
-fn place_writable(running: &mut Running, pieces: &[Piece]) -> Result<Writable, Refusal>
+fn place_writable(running: &mut Running, pieces: &ByClass<'_>) -> Result<Writable, Refusal>
     requires { All IsPiece pieces.now }
     ensures { Yields (λ part. (running.new, part)) result (with_writable pieces.now running.old) }
 {
-    running.put_class(Class::Data, pieces)?;
+    running.put_of(Class::Data, pieces)?;
     let file_end = running.end();
-    running.put_class(Class::Bss, pieces)?;
+    running.put_of(Class::Bss, pieces)?;
     Ok(Writable {
         file_end,
         mem_end: running.end(),
@@ -247,7 +270,11 @@ fn parts(
 
 // One segment after another, from 0 on.
 #[tactic(auto, unfolding(crate::specs::Segments::with_all))]
-fn walk(alloc: Global, pieces: &[Piece], sizes: &Sizes) -> Result<(Running, Parts), Refusal>
+fn walk_classes(
+    alloc: Global,
+    pieces: &ByClass<'_>,
+    sizes: &Sizes,
+) -> Result<(Running, Parts), Refusal>
     requires small { AreSmall sizes.now }
     requires sound { All IsPiece pieces.now }
     ensures { Yields (λ placed. placed) result (with_all pieces.now sizes.now) }
@@ -257,8 +284,18 @@ fn walk(alloc: Global, pieces: &[Piece], sizes: &Sizes) -> Result<(Running, Part
     let code = place_code(&mut running, pieces, sizes)?;
     let relocated = place_relocated(&mut running, pieces, sizes)?;
     let writable = place_writable(&mut running, pieces)?;
-    let parts = parts(pieces, &read_only, &code, &relocated, &writable);
+    let parts = parts(pieces.all(), &read_only, &code, &relocated, &writable);
     Ok((running, parts))
+}
+
+// The same, once it is known where the pieces of each class stand.
+fn walk(alloc: Global, pieces: &[Piece], sizes: &Sizes) -> Result<(Running, Parts), Refusal>
+    requires small { AreSmall sizes.now }
+    requires sound { All IsPiece pieces.now }
+    ensures { Yields (λ placed. placed) result (with_all pieces.now sizes.now) }
+{
+    let by_class = ByClass::new(alloc, pieces)?;
+    walk_classes(alloc, &by_class, sizes)
 }
 
 /// Places all segments: the addresses of the pieces in order of their classes, and where each part stands.
