@@ -59,7 +59,7 @@ impl<'a> Seen<'a> {
         })
     }
 
-    /// Takes in one more occurrence of a name. A refusal changes nothing but where names are sought first.
+    /// Takes in one more occurrence of a name.
     fn note(&mut self, name: &'a [u8], spot: Spot, symbol: Symbol) -> Result<(), NoMemory>
         ensures { OnOk result (self.new ≡ noted self.old (record { name = name.now; file = spot.file; symbol = spot.symbol; as_is = symbol })) }
     {
