@@ -7,17 +7,20 @@ root=$PWD
 folder=$(mktemp -d) || exit 2
 trap 'rm -rf "$folder"' EXIT
 
-echo "building purecap; the first time, its crates are proved, which takes some minutes"
-if ! (cd crates/purecap && rt run -- show data/i) > "$folder/log" 2>&1; then
-    tail -n 20 "$folder/log"
-    exit 1
+program=$root/crates/purecap/out/purecap
+if [ ! -x "$program" ] || [ -n "$(find crates crates.txt -newer "$program" -type f -not -path '*/out/*' -print -quit)" ]; then
+    echo "building purecap; the first time, its crates are proved, which may take an hour"
+    if ! (cd crates/purecap && rt run -- show data/i) > "$folder/log" 2>&1; then
+        tail -n 20 "$folder/log"
+        exit 1
+    fi
 fi
 
 python3 examples/make_objects.py "$folder" || exit 1
 cd "$folder" || exit 2
 run() {
     echo "\$ purecap $*"
-    "$root/crates/purecap/out/purecap" "$@" || exit 1
+    "$program" "$@" || exit 1
 }
 run link -o libgreet.so --shared libgreet.so greet.o
 run link -o libplugin.so --shared libplugin.so plugin.o libgreet.so
