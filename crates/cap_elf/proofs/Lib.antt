@@ -1,3 +1,4 @@
+pub mod FirstByte
 pub mod ByName
 pub mod Walk
 pub mod RelWalk

@@ -9,6 +9,7 @@ pub mod Tables
 pub mod Names
 pub mod NameSet
 pub mod Named
+pub mod NamePlaces
 pub mod Exported
 pub mod Symbols
 pub mod Relocs

@@ -1,5 +1,5 @@
 -- The symbols of a relocatable object (gABI, "Symbol Table").
-use Rattle.std.specs.Prelude.{ℕ, ◌+◌, ◌*◌, ◌^◌, Bool, true, false, not, ◌&&◌, ◌||◌, ◌==◌, nat_le, nat_lt, List, [], ◌∷◌, ◌++◌, length, map, slice_index_or, if◌then◌else◌, Result, Ok}
+use Rattle.std.specs.Prelude.{ℕ, ◌≤◌, ◌+◌, ◌*◌, ◌^◌, Bool, true, false, not, ◌&&◌, ◌||◌, ◌==◌, nat_le, nat_lt, List, [], ◌∷◌, ◌++◌, length, map, slice_index_or, if◌then◌else◌, Result, Ok}
 use Rattle.std.specs.Int.{is_power_of_two}
 use Rattle.cap_base.specs.Lists.{numbers_between}
 use Rattle.cap_base.specs.declared.check.Check.TheVariants.{SymbolTable, SymbolCount, SymbolPlace, CommonSymbol, SectionSize, SymbolKindPlace}
@@ -15,6 +15,7 @@ use Rattle.cap_elf.specs.declared.rel_symbols.Symtab.{Symtab}
 use Rattle.cap_elf.specs.declared.section_types.TheConstants.{SYMTAB}
 use Rattle.cap_elf.specs.declared.sections.SectionHeader.{SectionHeader}
 use Rattle.cap_elf.specs.Named.{NamedSymbol}
+use Rattle.cap_elf.specs.NamePlaces.{strings_at}
 use Rattle.cap_elf.specs.Classes.{is_kept, is_code, is_array}
 use Rattle.cap_elf.specs.Records.{symbol_entry_at}
 use Rattle.cap_elf.specs.RelObject.{no_section}
@@ -27,9 +28,15 @@ pub record SymtabView : Type 0 where
   pub place : Table
   pub strings : List ℕ
 
--- that, as contracts see it
-abbrev pub symtab_view : Symtab → SymtabView
-symtab_view t = record { is_there = t.is_there; place = t.place; strings = t.strings.now }
+-- that, as contracts see it in a file
+abbrev pub symtab_view : List ℕ → Symtab → SymtabView
+symtab_view bytes t = record { is_there = t.is_there; place = t.place; strings = strings_at bytes t.strings }
+
+-- both lie in a file of this length
+pub record IsSymtabInside (file_len : ℕ) (t : Symtab) : Type 0 where
+  pub symbols : t.place.at + 24 * t.place.count ≤ file_len
+  pub ordered : t.strings.start ≤ t.strings.end
+  pub inside : t.strings.end ≤ file_len
 
 -- a file without a symbol table has the null symbol alone
 abbrev pub no_symtab : SymtabView

@@ -7,6 +7,7 @@ use Rattle.cap_elf.specs.declared.records.Symbol.{Symbol}
 use Rattle.cap_elf.specs.declared.records.Reloc.{Reloc}
 use Rattle.cap_elf.specs.declared.rel_reading.RelRecords.{RelRecords}
 use Rattle.cap_elf.specs.Header.{header_of}
+use Rattle.cap_elf.specs.NamePlaces.{strings_at, names_at}
 use Rattle.cap_elf.specs.Records.{table}
 use Rattle.cap_elf.specs.Sections.{section_table_of, section_header_at, section_names_of, sections_of}
 use Rattle.cap_elf.specs.RelSymbols.{symtab_of, rel_named_in}
@@ -21,9 +22,9 @@ pub record RelView : Type 0 where
   pub names : List (List ℕ)
   pub relocs : List Reloc
 
--- the records that were read, as contracts see them
-abbrev pub rel_records_view : RelRecords → RelView
-rel_records_view r = record { flags = r.flags; sections = r.sections.items; symbols = r.symbols.items; names = r.names; relocs = r.relocs.items }
+-- the records that were read from these bytes, as contracts see them
+abbrev pub rel_records_view : List ℕ → RelRecords → RelView
+rel_records_view bytes r = record { flags = r.flags; sections = r.sections.items; symbols = r.symbols.items; names = names_at (strings_at bytes r.strings) r.names.items; relocs = r.relocs.items }
 
 -- the stages in the order of the checks
 unfoldable pub rel_records_of : List ℕ → Result RelView Fault

@@ -64,7 +64,7 @@ pub(crate) fn dyn_entry(bytes: &[u8], at: usize) -> DynEntry
 /// A symbol (Elf64_Sym), and where its name stands in the string table.
 #[derive(Clone, Copy, Debug, PartialEq, Eq)]
 pub struct SymbolEntry {
-    pub name: u64,
+    pub name: u32,
     pub symbol: Symbol,
 }
 
@@ -96,7 +96,7 @@ pub(crate) fn symbol_entry(bytes: &[u8], at: usize) -> SymbolEntry
         at: at as u64,
     };
     SymbolEntry {
-        name: u32_in(bytes, at) as u64,
+        name: u32_in(bytes, at),
         symbol,
     }
 }

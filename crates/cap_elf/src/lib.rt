@@ -29,6 +29,7 @@ mod program;
 mod reading;
 mod records;
 mod rel_file;
+mod rel_named;
 mod rel_reading;
 mod rel_relocs;
 mod rel_symbols;

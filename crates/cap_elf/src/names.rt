@@ -1,19 +1,22 @@
 //! Names in the string table, and among them those of the libraries that an object needs and its own.
 
-ghost use Rattle.std.specs.Prelude.{◌≡◌, ◌==◌, option_copied, position};
+ghost use Rattle.std.specs.Prelude.{◌≡◌, ◌==◌, option_copied, position, IfSome};
 ghost use Rattle.cap_base.specs.Steps.{Answers, Gives};
 ghost use Rattle.cap_elf.specs.Names.{name_of, rest_of, has_slash as has_slash_of, is_file_name as is_file_name_of};
+ghost use Rattle.cap_elf.specs.NamePlaces.{IsNameAt};
 ghost use Rattle.cap_elf.specs.FileNames.{file_name_of, name_step, names_of, names_view};
 
 use crate::decode::DynEntry;
 use crate::tags::{NEEDED, SONAME};
 use cap_base::{Check, Fault, Name, Stop, is_plain, refuse};
+use memchr::memchr;
 use std::alloc::Global;
 
+#[tactic(auto, using(crate::proofs::FirstByte::first_is))]
 fn zero_at(bytes: &[u8]) -> Option<usize>
     ensures { result ≡ position (λ b. b == 0) bytes.now }
 {
-    bytes.iter().position(|byte| *byte == 0)
+    memchr(0, bytes)
 }
 
 /// The bytes from `offset` on: a name, a zero byte, and what follows.
@@ -28,7 +31,8 @@ pub(crate) fn rest_at(strings: &[u8], offset: u64) -> Option<&[u8]>
 
 /// The bytes from `offset` on up to the next zero byte.
 pub(crate) fn name_at(strings: &[u8], offset: u64) -> Option<&[u8]>
-    ensures { option_copied result ≡ name_of strings.now offset }
+    ensures value { option_copied result ≡ name_of strings.now offset }
+    ensures place { IfSome result (λ n. IsNameAt strings.now offset n.now) }
 {
     if offset >= strings.len() as u64 {
         return None;

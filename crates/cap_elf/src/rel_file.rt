@@ -1,25 +1,29 @@
 //! A relocatable object that was read.
 
-ghost use Rattle.std.specs.Prelude.{◌≡◌, IfOk};
+ghost use Rattle.std.specs.Prelude.{◌≡◌, ◌<◌, [], length, slice_index_or, IfOk};
 ghost use Rattle.cap_base.specs.Steps.{Reads};
 ghost use Rattle.cap_elf.specs.RelView.{rel_view};
 ghost use Rattle.cap_elf.specs.IsRelRead.{IsRelRead};
+ghost use Rattle.cap_elf.specs.NamePlaces.{strings_at, names_at, AreNamesInside};
 
 use crate::records::{Reloc, Section, Symbol};
+use crate::rel_named::NamePlace;
 use crate::rel_reading::{RelRecords, read_rel_records};
-use cap_base::{Names, Refusal};
+use crate::sections::Strings;
+use cap_base::Refusal;
 use std::alloc::Global;
 use std::marker::Model;
 
-/// A relocatable object (ET_REL) that passed every check: its records, the bytes of its sections, and the number that
-/// its file was given.
+/// A relocatable object (ET_REL) that passed every check: its records, the bytes of its file, in which its sections and
+/// the names of its symbols stand, and the number that the file was given.
 #[derive(Drop)]
 pub struct RelFile {
     number: u32,
     flags: u32,
     sections: Vec<Section>,
     symbols: Vec<Symbol>,
-    names: Names,
+    strings: Strings,
+    names: Vec<NamePlace>,
     relocs: Vec<Reloc>,
     bytes: Vec<u8>,
 }
@@ -31,14 +35,28 @@ impl Model for RelFile {
 
     ghost use Rattle.std.specs.Prelude.{length};
     ghost use Rattle.cap_elf.specs.IsRelRead.{IsRelRead, AreInside};
+    ghost use Rattle.cap_elf.specs.NamePlaces.{strings_at, names_at, AreNamesInside};
 
-    ghost view = { λ f. rel_object f.number f.flags f.sections.items f.symbols.items f.names f.relocs.items f.bytes.items };
+    ghost view = { λ f. rel_object f.number f.flags f.sections.items f.symbols.items (names_at (strings_at f.bytes.items f.strings) f.names.items) f.relocs.items f.bytes.items };
 
-    ghost invariant = { λ f. IsRelRead (rel_object f.number f.flags f.sections.items f.symbols.items f.names f.relocs.items f.bytes.items) × AreInside (length f.bytes.items) f.sections.items };
+    ghost invariant = { λ f. IsRelRead (rel_object f.number f.flags f.sections.items f.symbols.items (names_at (strings_at f.bytes.items f.strings) f.names.items) f.relocs.items f.bytes.items) × AreInside (length f.bytes.items) f.sections.items × AreNamesInside (length f.bytes.items) f.strings f.names.items };
+}
+
+/// The name of this index, among the strings of a file.
+#[tactic(auto, using(crate::proofs::ByName::name_of_place))]
+fn name_in<'a>(bytes: &'a [u8], strings: Strings, names: &[NamePlace], i: usize) -> &'a [u8]
+    requires names { AreNamesInside (length bytes.now) strings names.now }
+    requires inside { i < length names.now }
+    ensures { result.now ≡ slice_index_or (names_at (strings_at bytes.now strings) names.now) i [] }
+{
+    let strings = &bytes[strings.start..strings.end];
+    let place = names[i];
+    let start = place.offset as usize;
+    &strings[start..start + place.len as usize]
 }
 
 /// Reads a relocatable object (ET_REL) of the pure-capability RISC-V profile, whose file is given this number. The
-/// bytes are kept, and no section is copied.
+/// bytes are kept, and neither a section nor a name is copied.
 ///
 /// The refusal is Malformed, Unsupported or Limit by the first check that fails, with the file's number and the offset
 /// of what is at fault; or NoMemory, also for a file of more than 2^62 bytes. The checks in their order, with what the
@@ -78,6 +96,7 @@ pub fn read_rel(alloc: Global, number: u32, bytes: Vec<u8>) -> Result<RelFile, R
                 flags,
                 sections,
                 symbols,
+                strings,
                 names,
                 relocs,
             } = records;
@@ -86,6 +105,7 @@ pub fn read_rel(alloc: Global, number: u32, bytes: Vec<u8>) -> Result<RelFile, R
                 flags,
                 sections,
                 symbols,
+                strings,
                 names,
                 relocs,
                 bytes,
@@ -143,7 +163,7 @@ impl RelFile {
         ensures name { result.now ≡ slice_index_or self.now.names symbol [] }
         ensures sound { IsRelRead self.now }
     {
-        self.names.get(symbol as usize)
+        name_in(&self.bytes, self.strings, &self.names, symbol as usize)
     }
 
     /// The bytes of a section that is kept and has bytes in the file.

@@ -2,47 +2,44 @@
 
 ghost use Rattle.std.specs.Prelude.{◌≡◌, ◌≤◌, ◌+◌, ◌*◌, length, IfOk};
 ghost use Rattle.cap_base.specs.Steps.{Answers, Gives};
-ghost use Rattle.cap_elf.specs.RelSymbols.{symtab_view, no_symtab, symtab_step, symtab_in, symtab_of, with_common as with_common_of, rel_symbol_at, rel_symbols_at, is_past as is_past_of, is_misplaced as is_misplaced_of, common_fails as common_fails_of, common_passes, section_passes, place_passes, rel_symbol_step, rel_named_of, rel_named_in};
+ghost use Rattle.cap_elf.specs.RelSymbols.{symtab_view, IsSymtabInside, symtab_step, symtab_in, symtab_of, with_common as with_common_of, rel_symbol_at, is_past as is_past_of, is_misplaced as is_misplaced_of, common_fails as common_fails_of, common_passes, section_passes, place_passes, rel_symbol_step, rel_named_in};
+ghost use Rattle.cap_elf.specs.NamePlaces.{strings_at};
 
 use crate::decode::{SymbolEntry, Table, symbol_entry};
-use crate::named::{Named, null_alone};
 use crate::records::{Place, Section, Symbol};
+use crate::rel_named::RelNamed;
 use crate::section_types::SYMTAB;
-use crate::sections::{SectionHeader, header_at, records_in, strings_in};
+use crate::sections::{SectionHeader, Strings, header_at, records_in, strings_place};
 use crate::symbols::checked_name;
 use cap_base::{Check, Fault, Stop, is_inside, refuse};
-use std::alloc::{AllocError, Global};
+use std::alloc::Global;
 
 /// Where the symbols stand, and the strings of their names.
-#[derive(Drop)]
-pub(crate) struct Symtab<'a> {
+#[derive(Clone, Copy, Debug, PartialEq, Eq)]
+pub(crate) struct Symtab {
     pub(crate) is_there: bool,
     pub(crate) place: Table,
-    pub(crate) strings: &'a [u8],
+    pub(crate) strings: Strings,
 }
 
 /// A file without a symbol table has the null symbol alone.
-fn no_symtab_in(bytes: &[u8]) -> Symtab<'_>
-    ensures { symtab_view result ≡ no_symtab }
-{
-    Symtab {
-        is_there: false,
-        place: Table { at: 0, count: 1 },
-        strings: &bytes[..0],
-    }
-}
+const NO_SYMTAB: Symtab = Symtab {
+    is_there: false,
+    place: Table { at: 0, count: 1 },
+    strings: Strings { start: 0, end: 0 },
+};
 
 /// The symbol table so far, and that of one more section.
 #[tactic(auto, unfolding(crate::specs::RelSymbols::symtab_step))]
-fn with_section<'a>(
-    found: Symtab<'a>,
-    bytes: &'a [u8],
+fn with_section(
+    found: Symtab,
+    bytes: &[u8],
     headers: &[SectionHeader],
     header: &SectionHeader,
-) -> Result<Symtab<'a>, Fault>
-    requires { found.place.at + 24 * found.place.count ≤ length bytes.now }
-    ensures value { Answers (λ t. symtab_view t) result (symtab_step bytes.now headers.now (symtab_view found.entry) header.now) }
-    ensures inside { IfOk result (λ t. t.place.at + 24 * t.place.count ≤ length bytes.now) }
+) -> Result<Symtab, Fault>
+    requires { IsSymtabInside (length bytes.now) found }
+    ensures value { Answers (symtab_view bytes.now) result (symtab_step bytes.now headers.now (symtab_view bytes.now found) header.now) }
+    ensures inside { IfOk result (IsSymtabInside (length bytes.now)) }
 {
     if header.kind != SYMTAB {
         return Ok(found);
@@ -50,7 +47,7 @@ fn with_section<'a>(
     refuse(found.is_there, Check::SymbolTable, header.at)?;
     let place = records_in(bytes.len() as u64, header, Check::SymbolTable)?;
     let names = header_at(headers, header.link);
-    let strings = strings_in(bytes, &names, Check::SymbolTable, header.at)?;
+    let strings = strings_place(bytes, &names, Check::SymbolTable, header.at)?;
     Ok(Symtab {
         is_there: true,
         place,
@@ -59,12 +56,12 @@ fn with_section<'a>(
 }
 
 #[tactic(auto, using(cap_base::proofs::Walk::steps_more, cap_base::proofs::Walk::steps_fault, cap_base::proofs::Walk::steps_done))]
-fn symtab_among<'a>(bytes: &'a [u8], headers: &[SectionHeader]) -> Result<Symtab<'a>, Fault>
+fn symtab_among(bytes: &[u8], headers: &[SectionHeader]) -> Result<Symtab, Fault>
     requires { 64 ≤ length bytes.now }
-    ensures value { Answers (λ t. symtab_view t) result (symtab_in bytes.now headers.now) }
-    ensures inside { IfOk result (λ t. t.place.at + 24 * t.place.count ≤ length bytes.now) }
+    ensures value { Answers (symtab_view bytes.now) result (symtab_in bytes.now headers.now) }
+    ensures inside { IfOk result (IsSymtabInside (length bytes.now)) }
 {
-    let mut symtab = no_symtab_in(bytes);
+    let mut symtab = NO_SYMTAB;
     for header in headers {
         symtab = with_section(symtab, bytes, headers, header)?;
     }
@@ -73,13 +70,10 @@ fn symtab_among<'a>(bytes: &'a [u8], headers: &[SectionHeader]) -> Result<Symtab
 
 /// The symbol table (SHT_SYMTAB).
 #[tactic(auto, unfolding(crate::specs::RelSymbols::symtab_of))]
-pub(crate) fn read_symtab<'a>(
-    bytes: &'a [u8],
-    headers: &[SectionHeader],
-) -> Result<Symtab<'a>, Fault>
+pub(crate) fn read_symtab(bytes: &[u8], headers: &[SectionHeader]) -> Result<Symtab, Fault>
     requires { 64 ≤ length bytes.now }
-    ensures value { Answers (λ t. symtab_view t) result (symtab_of bytes.now headers.now) }
-    ensures inside { IfOk result (λ t. t.place.at + 24 * t.place.count ≤ length bytes.now) }
+    ensures value { Answers (symtab_view bytes.now) result (symtab_of bytes.now headers.now) }
+    ensures inside { IfOk result (IsSymtabInside (length bytes.now)) }
 {
     let symtab = symtab_among(bytes, headers)?;
     refuse(symtab.place.count > 1 << 20, Check::SymbolCount, 0)?;
@@ -112,19 +106,6 @@ fn rel_symbol(bytes: &[u8], at: usize) -> SymbolEntry
         name,
         symbol: Symbol { place, ..symbol },
     }
-}
-
-/// The symbols from index 1 on.
-#[tactic(auto, using(crate::proofs::RelWalk::numbers_more))]
-fn rel_symbols(alloc: Global, bytes: &[u8], place: Table) -> Result<Vec<SymbolEntry>, AllocError>
-    requires { place.at + 24 * place.count ≤ length bytes.now }
-    ensures { IfOk result (λ v. v.items ≡ rel_symbols_at bytes.now place) }
-{
-    let mut entries = Vec::with_capacity(alloc, place.count)?;
-    for i in 1..place.count {
-        entries.push(rel_symbol(bytes, place.at + 24 * i))?;
-    }
-    Ok(entries)
 }
 
 #[tactic(auto, unfolding(crate::specs::RelSymbols::is_past))]
@@ -189,48 +170,44 @@ fn check_place(sections: &[Section], symbol: &Symbol) -> Result<(), Fault>
 
 #[tactic(auto, unfolding(crate::specs::RelSymbols::rel_symbol_step))]
 fn add_symbol(
-    named: &mut Named,
+    named: &mut RelNamed<'_>,
     strings: &[u8],
     sections: &[Section],
     entry: &SymbolEntry,
 ) -> Result<(), Stop>
-    ensures { Gives (λ _. named.new) result (rel_symbol_step strings.now sections.now named.old entry.now) }
+    requires { strings.now ≡ named.old.strings }
+    ensures value { Gives (λ _. named.new.named) result (rel_symbol_step strings.now sections.now named.old.named entry.now) }
+    ensures strings { named.new.strings ≡ named.old.strings }
 {
     let symbol = entry.symbol;
     let name = checked_name(strings, entry)?;
     check_place(sections, &symbol)?;
-    named.push(symbol, name)?;
+    named.push(symbol, entry.name, name)?;
     Ok(())
 }
 
-#[tactic(auto, using(cap_base::proofs::Walk::steps_more, cap_base::proofs::Walk::steps_stop))]
-fn named_symbols(
+/// The symbols of a symbol table.
+#[tactic(auto, using(crate::proofs::RelWalk::steps_from, crate::proofs::RelWalk::steps_end, crate::proofs::RelWalk::steps_stop_from))]
+pub(crate) fn read_rel_symbols<'a>(
     alloc: Global,
-    strings: &[u8],
+    bytes: &'a [u8],
     sections: &[Section],
-    at: u64,
-    entries: &[SymbolEntry],
-) -> Result<Named, Stop>
-    ensures { Gives (λ n. n) result (rel_named_of strings.now sections.now at entries.now) }
+    symtab: Symtab,
+) -> Result<RelNamed<'a>, Stop>
+    requires { IsSymtabInside (length bytes.now) symtab }
+    ensures value { Gives (λ n. n.named) result (rel_named_in bytes.now sections.now (symtab_view bytes.now symtab)) }
+    ensures strings { IfOk result (λ n. n.strings ≡ strings_at bytes.now symtab.strings) }
 {
-    let mut named = null_alone(alloc, at, entries.len() + 1)?;
-    for entry in entries {
-        add_symbol(&mut named, strings, sections, entry)?;
+    let Table { at, count } = symtab.place;
+    let strings = &bytes[symtab.strings.start..symtab.strings.end];
+    let mut named = RelNamed::null_alone(alloc, strings, at as u64, count)?;
+    for i in 1..count {
+        add_symbol(
+            &mut named,
+            strings,
+            sections,
+            &rel_symbol(bytes, at + 24 * i),
+        )?;
     }
     Ok(named)
-}
-
-/// The symbols of a symbol table.
-pub(crate) fn read_rel_symbols(
-    alloc: Global,
-    bytes: &[u8],
-    sections: &[Section],
-    symtab: &Symtab,
-) -> Result<Named, Stop>
-    requires { symtab.now.place.at + 24 * symtab.now.place.count ≤ length bytes.now }
-    ensures { Gives (λ n. n) result (rel_named_in bytes.now sections.now (symtab_view symtab.now)) }
-{
-    let entries = rel_symbols(alloc, bytes, symtab.place)?;
-    let at = symtab.place.at as u64;
-    named_symbols(alloc, symtab.strings, sections, at, &entries)
 }

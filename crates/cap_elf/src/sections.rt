@@ -5,6 +5,7 @@ ghost use Rattle.cap_base.specs.Steps.{Answers, Gives};
 ghost use Rattle.cap_elf.specs.Records.{table};
 ghost use Rattle.cap_elf.specs.SectionTypes.{has_flag as has_flag_of, is_calls as is_calls_of, is_loadable as is_loadable_of, type_fails as type_fails_of, has_priority as has_priority_of, memory_fails as memory_fails_of, flags_fail as flags_fail_of, is_relro_name as is_relro_name_of, class_of};
 ghost use Rattle.cap_elf.specs.Sections.{section_table_of, section_header_at, no_header, header_at as header_at_of, strings_in as strings_in_of, records_in as records_in_of, section_names_of, section_of, section_step, sections_of};
+ghost use Rattle.cap_elf.specs.NamePlaces.{strings_at};
 
 use crate::decode::Table;
 use crate::names::rest_at;
@@ -112,9 +113,39 @@ pub(crate) fn header_at(headers: &[SectionHeader], index: u32) -> SectionHeader
     }
 }
 
-/// The bytes of a string table.
+/// Where a string table stands in the file.
+#[derive(Clone, Copy, Debug, PartialEq, Eq)]
+pub(crate) struct Strings {
+    pub(crate) start: usize,
+    pub(crate) end: usize,
+}
+
+/// Where the string table of a section stands.
 #[tactic(auto, unfolding(crate::specs::Sections::strings_in))]
-pub(crate) fn strings_in<'a>(
+pub(crate) fn strings_place(
+    bytes: &[u8],
+    header: &SectionHeader,
+    check: Check,
+    at: u64,
+) -> Result<Strings, Fault>
+    ensures value { Answers (λ s. strings_at bytes.now s) result (strings_in_of bytes.now header.now check at) }
+    ensures ordered { IfOk result (λ s. s.start ≤ s.end) }
+    ensures inside { IfOk result (λ s. s.end ≤ length bytes.now) }
+{
+    let outside = !is_inside(header.offset, header.size, bytes.len() as u64);
+    refuse(header.kind != STRTAB || outside, check, at)?;
+    let place = Strings {
+        start: header.offset as usize,
+        end: (header.offset + header.size) as usize,
+    };
+    let strings = &bytes[place.start..place.end];
+    let fails = header.size == 0 || strings[0] != 0 || strings[strings.len() - 1] != 0;
+    refuse(fails, check, at)?;
+    Ok(place)
+}
+
+/// The bytes of a string table.
+fn strings_in<'a>(
     bytes: &'a [u8],
     header: &SectionHeader,
     check: Check,
@@ -122,12 +153,8 @@ pub(crate) fn strings_in<'a>(
 ) -> Result<&'a [u8], Fault>
     ensures { Answers (λ s. s.now) result (strings_in_of bytes.now header.now check at) }
 {
-    let outside = !is_inside(header.offset, header.size, bytes.len() as u64);
-    refuse(header.kind != STRTAB || outside, check, at)?;
-    let strings = &bytes[header.offset as usize..(header.offset + header.size) as usize];
-    let fails = header.size == 0 || strings[0] != 0 || strings[strings.len() - 1] != 0;
-    refuse(fails, check, at)?;
-    Ok(strings)
+    let place = strings_place(bytes, header, check, at)?;
+    Ok(&bytes[place.start..place.end])
 }
 
 /// Where the records of a section stand, which are symbols or relocations.

@@ -5,6 +5,7 @@ ghost use Rattle.std.specs.Str.{bytes_eq};
 ghost use Rattle.cap_base.specs.Steps.{Answers, Gives};
 ghost use Rattle.cap_elf.specs.Records.{table, symbol_entry_at};
 ghost use Rattle.cap_elf.specs.NameSet.{has_name};
+ghost use Rattle.cap_elf.specs.NamePlaces.{IsNameAt};
 ghost use Rattle.cap_elf.specs.Exported.{is_exported as is_exported_of, has_exported};
 ghost use Rattle.cap_elf.specs.Symbols.{checked_name as checked_name_of, is_reserved as is_reserved_of, named_of, named_in};
 
@@ -60,14 +61,16 @@ fn is_reserved(place: Place) -> bool
 /// The name of a symbol that passes each check of its own.
 #[tactic(auto, unfolding(crate::specs::Symbols::checked_name))]
 pub(crate) fn checked_name<'a>(strings: &'a [u8], entry: &SymbolEntry) -> Result<&'a [u8], Fault>
-    ensures { Answers (λ n. n.now) result (checked_name_of strings.now entry.now) }
+    ensures value { Answers (λ n. n.now) result (checked_name_of strings.now entry.now) }
+    ensures place { IfOk result (λ n. IsNameAt strings.now entry.now.name n.now) }
+    ensures short { IfOk result (λ n. length n.now ≤ 255) }
 {
     let symbol = entry.symbol;
     let fault = Fault {
         check: Check::SymbolName,
         at: symbol.at,
     };
-    let name = name_at(strings, entry.name).ok_or(fault)?;
+    let name = name_at(strings, u64::from(entry.name)).ok_or(fault)?;
     let is_bad = !is_plain(name) || (name.is_empty() && symbol.binding != 0);
     refuse(is_bad, Check::SymbolName, symbol.at)?;
     refuse(name.len() > 255, Check::NameLength, 0)?;
