@@ -13,7 +13,7 @@ use Rattle.cap_syms.specs.declared.tally.Tally.{Tally}
 use Rattle.cap_syms.specs.Occurrences.{Occurrence, occurrences, occurrences_of, names_in_order}
 use Rattle.cap_syms.specs.Decisions.{further_definitions, bound_of, is_strongly_absent, is_default}
 use Rattle.cap_syms.specs.Resolved.{Resolved, resolved, refuse_second, defined_once, is_offered, is_defined_somewhere, resolve_of}
-use Rattle.cap_syms.specs.Tally.{tally_of, second_of, tallied, refuse_this, decided_row, refuse_missing}
+use Rattle.cap_syms.specs.Tally.{tally_of, tally_by, deciding, second_of, second_from, tallied, refuse_this, decided_row, refuse_missing}
 use Rattle.cap_syms.proofs.Loops.{each-same, each-map}
 use Rattle.cap_syms.proofs.Tallies.{entry-is}
 
@@ -37,12 +37,15 @@ module _ (rels : List RelObject) (dyns : List DynValue) (program : Bool) where
   abbrev table : List Resolved
   table = map (resolved all program) names
 
-  second-is : (xs : List Occurrence) → refuse_this rels (option_map second_of (slice_get xs 0)) ≡ refuse_second rels xs
-  second-is [] = refl
-  second-is (o ∷ xs) = refl
-
   abbrev refuse_tally : Tally → Result (Unit {0}) Refusal
-  refuse_tally t = refuse_this rels t.second
+  refuse_tally t = refuse_this rels (second_from t)
+
+  second-is : (os : List Occurrence) → refuse_tally (tally_of os) ≡ refuse_second rels (further_definitions os)
+  second-is os = by (further_definitions os)
+    where
+      by : (xs : List Occurrence) → refuse_tally (tally_by (deciding os) (option_map second_of (slice_get xs 0)) 0 0 0) ≡ refuse_second rels xs
+      by [] = refl
+      by (o ∷ xs) = refl
 
   abbrev tally_at : List ℕ → Tally
   tally_at n = tally_of (occurrences_of all n)
@@ -51,7 +54,7 @@ module _ (rels : List RelObject) (dyns : List DynValue) (program : Bool) where
   seconds =
       each-map refuse_tally (λ (p : List ℕ × Tally). p.1) (tallied all)
       ∙ each-map (λ (p : List ℕ × Tally). refuse_tally p.1) (λ n. (n, tally_at n)) names
-      ∙ each-same (λ n. refuse_tally (tally_at n)) (defined_once rels all) (λ n. second-is (further_definitions (occurrences_of all n))) names
+      ∙ each-same (λ n. refuse_tally (tally_at n)) (defined_once rels all) (λ n. second-is (occurrences_of all n)) names
 
   rows-are : (ns : List (List ℕ)) → map (decided_row program) (map (λ n. (n, tally_at n)) ns) ≡ map (resolved all program) ns
   rows-are [] = refl

@@ -1,5 +1,5 @@
 -- What is kept of the occurrences of one name, and the decision that it gives. Nothing here is in a public clause.
-use Rattle.std.specs.Prelude.{ℕ, Bool, true, false, not, ◌&&◌, ◌||◌, ◌==◌, max, is_some, if◌then◌else◌, List, [], ◌∷◌, ◌++◌, length, map, filter, find, fold, zip, Option, Some, None, Result, Ok, Err, unwrap_or, slice_get, slice_set, slice_index_or}
+use Rattle.std.specs.Prelude.{ℕ, Bool, true, false, not, ◌&&◌, ◌||◌, ◌==◌, nat_lt, max, is_some, if◌then◌else◌, List, [], ◌∷◌, ◌++◌, length, map, filter, find, fold, zip, Option, Some, None, Result, Ok, Err, unwrap_or, slice_get, slice_set, slice_index_or}
 use Rattle.std.specs.List.{enumerate_from, list_any}
 use Rattle.std.specs.Option.{option_or, option_map}
 use Rattle.std.specs.Str.{bytes_eq}
@@ -14,13 +14,14 @@ use Rattle.cap_elf.specs.DynView.{DynValue}
 use Rattle.cap_syms.specs.declared.entries.Entry.{Entry}
 use Rattle.cap_syms.specs.declared.entries.Shape.{Shape}
 use Rattle.cap_syms.specs.declared.entries.Shape.TheVariants as shapes
-use Rattle.cap_syms.specs.declared.decision.Decision.{Decision}
+use Rattle.cap_syms.specs.declared.tally.Rank.{Rank}
+use Rattle.cap_syms.specs.declared.tally.Rank.TheVariants as ranks
 use Rattle.cap_syms.specs.declared.tally.Spot.{Spot}
 use Rattle.cap_syms.specs.declared.tally.Second.{Second}
 use Rattle.cap_syms.specs.declared.tally.Tally.{Tally}
 use Rattle.cap_syms.specs.Distinct.{with_new, distinct}
 use Rattle.cap_syms.specs.Occurrences.{Occurrence, occurrences_of, is_local, is_global, is_weak, is_definition_at, is_common_at}
-use Rattle.cap_syms.specs.Decisions.{is_global_definition, is_weak_definition, is_common, is_default, is_strongly_absent, further_definitions, largest, visibility_of, no_entry, bound_of}
+use Rattle.cap_syms.specs.Decisions.{is_global_definition, is_weak_definition, is_common, is_default, is_strongly_absent, further_definitions, largest, visibility_of, bound_of}
 use Rattle.cap_syms.specs.Resolved.{Resolved, can_be_chosen}
 
 abbrev pub spot_of : Occurrence → Spot
@@ -29,23 +30,77 @@ spot_of o = record { file = o.file; symbol = o.symbol }
 abbrev pub second_of : Occurrence → Second
 second_of o = record { file = o.file; at = o.as_is.at }
 
--- the tally of the occurrences of a name, by what each part of it means
-abbrev pub tally_of : List Occurrence → Tally
-tally_of os = record {
-  definition = option_map spot_of (find is_global_definition os);
-  second = option_map second_of (slice_get (further_definitions os) 0);
-  common = option_map spot_of (find is_common os);
-  size = largest (map (λ o. o.as_is.size) (filter is_common os));
-  align = largest (map (λ o. o.as_is.value) (filter is_common os));
-  weak = option_map spot_of (find is_weak_definition os);
-  global = option_map spot_of (find (λ o. is_global o.as_is) os);
-  first = option_map spot_of (slice_get os 0);
-  visibility = visibility_of os;
+abbrev pub defines : Symbol → Bool
+defines s = is_global s && is_definition_at s.place
+
+abbrev pub defines_weakly : Symbol → Bool
+defines_weakly s = is_weak s && is_definition_at s.place
+
+-- what an occurrence with this symbol is, and how much that counts
+abbrev pub rank_of : Symbol → Rank
+rank_of s =
+    if defines s then ranks.GlobalDefinition
+    else if is_common_at s.place then ranks.Common
+    else if defines_weakly s then ranks.WeakDefinition
+    else if is_global s then ranks.GlobalReference
+    else ranks.WeakReference
+
+abbrev pub rank_number : Rank → ℕ
+rank_number ranks.Unseen = 0
+rank_number ranks.WeakReference = 1
+rank_number ranks.GlobalReference = 2
+rank_number ranks.WeakDefinition = 3
+rank_number ranks.Common = 4
+rank_number ranks.GlobalDefinition = 5
+
+abbrev pub is_highest : Rank → Bool
+is_highest ranks.Unseen = false
+is_highest ranks.WeakReference = false
+is_highest ranks.GlobalReference = false
+is_highest ranks.WeakDefinition = false
+is_highest ranks.Common = false
+is_highest ranks.GlobalDefinition = true
+
+-- the occurrence that decides, and what it is: by the first definition, the first common symbol, and so on
+abbrev pub ranked : Rank → Option Occurrence → Option (Spot × Rank)
+ranked rank o = option_map (λ o. (spot_of o, rank)) o
+
+abbrev pub none_decides : Spot × Rank
+none_decides = (record { file = 0; symbol = 0 }, ranks.Unseen)
+
+abbrev pub deciding_by : Option Occurrence → Option Occurrence → Option Occurrence → Option Occurrence → Option Occurrence → Spot × Rank
+deciding_by definition common weak global first =
+    unwrap_or
+    (option_or (ranked ranks.GlobalDefinition definition)
+    (option_or (ranked ranks.Common common)
+    (option_or (ranked ranks.WeakDefinition weak)
+    (option_or (ranked ranks.GlobalReference global)
+    (ranked ranks.WeakReference first)))))
+    none_decides
+
+abbrev pub deciding : List Occurrence → Spot × Rank
+deciding os =
+    deciding_by (find is_global_definition os) (find is_common os) (find is_weak_definition os) (find (λ o. is_global o.as_is) os) (slice_get os 0)
+
+abbrev pub second_definition : List Occurrence → Option Second
+second_definition os = option_map second_of (slice_get (further_definitions os) 0)
+
+abbrev pub tally_by : Spot × Rank → Option Second → ℕ → ℕ → ℕ → Tally
+tally_by decides second size align visibility = record {
+  spot = decides.0;
+  size = size;
+  align = align;
+  second_at = (unwrap_or second (record { file = 0; at = 0 })).at;
+  second_file = (unwrap_or second (record { file = 0; at = 0 })).file;
+  has_second = is_some second;
+  rank = decides.1;
+  visibility = visibility;
 }
 
--- this one, where there is none before
-abbrev pub or_this : {X : Type 0} → Option X → Bool → X → Option X
-or_this so_far holds this = option_or so_far (if holds then Some this else None)
+-- the tally of the occurrences of a name, by what each part of it means
+abbrev pub tally_of : List Occurrence → Tally
+tally_of os =
+    tally_by (deciding os) (second_definition os) (largest (map (λ o. o.as_is.size) (filter is_common os))) (largest (map (λ o. o.as_is.value) (filter is_common os))) (visibility_of os)
 
 abbrev pub larger : ℕ → Bool → ℕ → ℕ
 larger so_far holds value = if holds then max so_far value else so_far
@@ -57,37 +112,23 @@ stricter a b =
 
 -- no occurrence
 abbrev pub no_tally : Tally
-no_tally = record {
-  definition = None;
-  second = None;
-  common = None;
-  size = 0;
-  align = 0;
-  weak = None;
-  global = None;
-  first = None;
-  visibility = 0;
-}
-
-abbrev pub defines : Symbol → Bool
-defines s = is_global s && is_definition_at s.place
-
-abbrev pub defines_weakly : Symbol → Bool
-defines_weakly s = is_weak s && is_definition_at s.place
+no_tally = tally_by none_decides None 0 0 0
 
 -- one more occurrence
 unfoldable pub with_symbol : Tally → Spot → Symbol → Tally
-with_symbol t spot s = record {
-  definition = or_this t.definition (defines s) spot;
-  second = or_this t.second (is_some t.definition && defines s) (record { file = spot.file; at = s.at });
-  common = or_this t.common (is_common_at s.place) spot;
-  size = larger t.size (is_common_at s.place) s.size;
-  align = larger t.align (is_common_at s.place) s.value;
-  weak = or_this t.weak (defines_weakly s) spot;
-  global = or_this t.global (is_global s) spot;
-  first = or_this t.first true spot;
-  visibility = stricter t.visibility s.visibility;
-}
+with_symbol t spot s =
+    let decides = nat_lt (rank_number t.rank) (rank_number (rank_of s)) in
+    let is_second = not t.has_second && is_highest t.rank && defines s in
+    record {
+      spot = if decides then spot else t.spot;
+      size = larger t.size (is_common_at s.place) s.size;
+      align = larger t.align (is_common_at s.place) s.value;
+      second_at = if is_second then s.at else t.second_at;
+      second_file = if is_second then spot.file else t.second_file;
+      has_second = t.has_second || is_second;
+      rank = if decides then rank_of s else t.rank;
+      visibility = stricter t.visibility s.visibility;
+    }
 
 abbrev pub with_occurrence : Tally → Occurrence → Tally
 with_occurrence t o = with_symbol t (spot_of o) o.as_is
@@ -99,21 +140,19 @@ noted (row ∷ rows) o =
     if bytes_eq o.name row.0 then (row.0, with_occurrence row.1 o) ∷ rows else row ∷ noted rows o
 
 -- the decision
-abbrev pub decided_by : Tally → Shape → Spot → Entry
-decided_by t shape spot = record { file = spot.file; symbol = spot.symbol; shape = shape; visibility = t.visibility }
+abbrev pub shape_from : Rank → ℕ → ℕ → Shape
+shape_from ranks.Unseen _ _ = shapes.Absent true
+shape_from ranks.WeakReference _ _ = shapes.Absent true
+shape_from ranks.GlobalReference _ _ = shapes.Absent false
+shape_from ranks.WeakDefinition _ _ = shapes.Defined
+shape_from ranks.Common size align = shapes.Common size align
+shape_from ranks.GlobalDefinition _ _ = shapes.Defined
 
-abbrev pub decided_at : Tally → Shape → Option Spot → Option Entry
-decided_at t shape spot = option_map (decided_by t shape) spot
+abbrev pub entry_from : Tally → Entry
+entry_from t = record { file = t.spot.file; symbol = t.spot.symbol; shape = shape_from t.rank t.size t.align; visibility = t.visibility }
 
-unfoldable pub entry_from : Tally → Entry
-entry_from t =
-    unwrap_or
-    (option_or (decided_at t shapes.Defined t.definition)
-    (option_or (decided_at t (shapes.Common t.size t.align) t.common)
-    (option_or (decided_at t shapes.Defined t.weak)
-    (option_or (decided_at t (shapes.Absent false) t.global)
-    (decided_at t (shapes.Absent true) t.first)))))
-    no_entry
+abbrev pub second_from : Tally → Option Second
+second_from t = if t.has_second then Some (record { file = t.second_file; at = t.second_at }) else None
 
 -- the names of occurrences at their first appearance, each with the tally of its own
 abbrev pub tallied : List Occurrence → List (List ℕ × Tally)
@@ -165,7 +204,3 @@ with_choosable names p = if can_be_chosen p.1 then with_new bytes_eq names p.0 e
 
 unfoldable pub with_choosables : List (List ℕ) → DynValue → List (List ℕ)
 with_choosables names d = fold with_choosable names (zip d.records.names d.records.symbols)
-
--- the rows of a table, by its names and decisions
-abbrev pub row : List ℕ × Decision → Resolved
-row p = record { name = p.0; entry = p.1.entry; bound = p.1.bound }

@@ -1,16 +1,9 @@
-//! The decision on a name, and how the name is bound by it.
+//! How a name is bound by the decision on it.
 
 ghost use Rattle.std.specs.Prelude.{◌≡◌};
 ghost use Rattle.cap_syms.specs.Decisions.{is_present as is_present_of, is_weakly_absent as is_weakly_absent_of, bound_of};
 
 use crate::entries::{Bound, Entry, Shape};
-
-/// The decision on a name, with how it is bound.
-#[derive(Clone, Copy, Debug, PartialEq, Eq)]
-pub(crate) struct Decision {
-    pub(crate) entry: Entry,
-    pub(crate) bound: Bound,
-}
 
 fn is_present(shape: Shape) -> bool
     ensures { result ≡ is_present_of shape }

@@ -3,7 +3,8 @@
 //! - `resolve` decides on each name that isn't local: which of its occurrences defines it, what its common symbols merge
 //!   to, or that it is absent; and whether it is bound in the linked file, to nothing, or when that is loaded. It refuses
 //!   a name with two definitions, and one that is missing.
-//! - `Table` has the names in order of first appearance, each with its decision, and finds them by hash.
+//! - `Table` has the names in order of first appearance, each with the tally that its decision is read from, and finds
+//!   them by hash.
 //!
 //! The definition (specs/Resolved) takes all occurrences of a name together; the code passes over the inputs once, with
 //! one look-up an occurrence, and keeps of each name a tally of what the decision needs. What is hard is that the tallies

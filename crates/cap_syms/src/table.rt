@@ -5,12 +5,12 @@ ghost use Rattle.std.specs.List.{list_any};
 ghost use Rattle.cap_base.specs.Steps.{Yields, each};
 ghost use Rattle.cap_elf.specs.RelObject.{file_of};
 ghost use Rattle.cap_syms.specs.Output.{is_program as is_program_of};
-ghost use Rattle.cap_syms.specs.Decisions.{is_strongly_absent as is_strongly_absent_of, bound_of};
+ghost use Rattle.cap_syms.specs.Decisions.{is_strongly_absent as is_strongly_absent_of};
 ghost use Rattle.cap_syms.specs.Resolved.{resolve_of};
 ghost use Rattle.cap_syms.specs.IsResolved.{IsResolved};
-ghost use Rattle.cap_syms.specs.Tally.{entry_from, refuse_this, decided_row, is_missing as is_missing_of, refuse_name, refuse_missing as refuse_missing_row};
+ghost use Rattle.cap_syms.specs.Tally.{second_from, refuse_this, decided_row, is_missing as is_missing_of, refuse_name, refuse_missing as refuse_missing_row};
 
-use crate::decision::{Decision, bound};
+use crate::decision::bound;
 use crate::entries::{Bound, Entry, Shape};
 use crate::names::Names;
 use crate::offered::offered;
@@ -26,20 +26,21 @@ use std::marker::Model;
 #[derive(Drop)]
 pub struct Table<'a> {
     names: Names<'a>,
-    decisions: Vec<Decision>,
+    tallies: Vec<Tally>,
+    program: bool,
     rows: Rows,
 }
 
 impl<'a> Model for Table<'a> {
     ghost use Rattle.std.specs.Prelude.{◌≡◌, List, map, zip, length, ◌<◌, ◌^◌};
     ghost use Rattle.cap_syms.specs.Resolved.{Resolved};
-    ghost use Rattle.cap_syms.specs.Tally.{row};
+    ghost use Rattle.cap_syms.specs.Tally.{decided_row};
 
     ghost Value = { List Resolved };
 
-    ghost view = { λ t. map row (zip t.names t.decisions.items) };
+    ghost view = { λ t. map (decided_row t.program) (zip t.names t.tallies.items) };
 
-    ghost invariant = { λ t. (length t.names ≡ length t.decisions.items) × (length t.decisions.items < 2 ^ 32) };
+    ghost invariant = { λ t. (length t.names ≡ length t.tallies.items) × (length t.tallies.items < 2 ^ 32) };
 }
 
 /// The number of the input at a place; 0 where there is none.
@@ -71,52 +72,26 @@ fn refuse_second(rels: &[RelFile], second: Option<Second>) -> Result<(), Refusal
 /// Refuses the first name that has a second definition.
 #[tactic(auto, using(cap_base::proofs::Walk::steps_more, cap_base::proofs::Walk::steps_fault, cap_base::proofs::Walk::steps_done))]
 fn refuse_seconds(rels: &[RelFile], tallies: &[Tally]) -> Result<(), Refusal>
-    ensures { result ≡ each (λ t. refuse_this rels.now t.second) tallies.now }
+    ensures { result ≡ each (λ t. refuse_this rels.now (second_from t)) tallies.now }
 {
     for tally in tallies {
-        refuse_second(rels, tally.second)?;
+        refuse_second(rels, tally.second())?;
     }
     Ok(())
 }
 
-/// The decision that a tally gives.
-fn decision(tally: Tally, program: bool) -> Decision
-    ensures { result ≡ record { entry = entry_from tally; bound = bound_of program (entry_from tally) } }
-{
-    let entry = tally.entry();
-    Decision {
-        entry,
-        bound: bound(program, entry),
-    }
-}
-
-/// The decisions that the tallies give.
-fn decisions(alloc: Global, tallies: &[Tally], program: bool) -> Result<Vec<Decision>, NoMemory>
-    ensures { IfOk result (λ ds. ds.items ≡ map (λ t. record { entry = entry_from t; bound = bound_of program (entry_from t) }) tallies.now) }
-{
-    let mut decisions = Vec::with_capacity(alloc, tallies.len())?;
-    for tally in tallies {
-        decisions.push(decision(*tally, program))?;
-    }
-    Ok(decisions)
-}
-
 /// The table of the names that were seen, each with its decision.
-fn decide<'a>(
-    alloc: Global,
-    rels: &[RelFile],
-    seen: Seen<'a>,
-    program: bool,
-) -> Result<Table<'a>, NoMemory>
+fn decide<'a>(rels: &[RelFile], seen: Seen<'a>, program: bool) -> Result<Table<'a>, NoMemory>
     ensures { IfOk result (λ table. table ≡ map (decided_row program) seen.entry) }
 {
-    let decisions = decisions(alloc, &seen.tallies, program)?;
     let names = seen.names;
+    let tallies = seen.tallies;
     let mut rows = seen.rows;
     rows.set_starts(rels)?;
     Ok(Table {
         names,
-        decisions,
+        tallies,
+        program,
         rows,
     })
 }
@@ -195,7 +170,7 @@ pub fn resolve<'a>(
     let program = is_program(kind);
     let seen = tally_all(alloc, rels)?;
     refuse_seconds(rels, &seen.tallies)?;
-    let table = decide(alloc, rels, seen, program)?;
+    let table = decide(rels, seen, program)?;
     let offered = offered(alloc, dyns, program)?;
     table.refuse_missing(rels, &offered, program)?;
     Ok(table)
@@ -214,13 +189,13 @@ impl<'a> Table<'a> {
     ) -> Result<(), Refusal>
         ensures { result ≡ each (refuse_missing_row rels.now program offered.now) self.now }
     {
-        for i in 0..self.decisions.len() {
+        for i in 0..self.tallies.len() {
             refuse_missing(
                 rels,
                 program,
                 offered,
                 self.names.name(i),
-                self.decisions[i].entry,
+                self.tallies[i].entry(),
             )?;
         }
         Ok(())
@@ -230,7 +205,7 @@ impl<'a> Table<'a> {
     pub fn len(&self) -> u32
         ensures { result ≡ length self.now }
     {
-        self.decisions.len() as u32
+        self.tallies.len() as u32
     }
 
     /// The name of a row.
@@ -246,7 +221,7 @@ impl<'a> Table<'a> {
         requires { row < length self.now }
         ensures { result ≡ (row_of self.now row).entry }
     {
-        self.decisions[row as usize].entry
+        self.tallies[row as usize].entry()
     }
 
     /// How references to the name of a row are bound.
@@ -254,7 +229,7 @@ impl<'a> Table<'a> {
         requires { row < length self.now }
         ensures { result ≡ (row_of self.now row).bound }
     {
-        self.decisions[row as usize].bound
+        bound(self.program, self.tallies[row as usize].entry())
     }
 
     /// The row of a name; None exactly where no input names it. The look-up is by hash.

@@ -2,7 +2,7 @@
 
 ghost use Rattle.std.specs.Prelude.{◌≡◌, max, if◌then◌else◌};
 ghost use Rattle.cap_syms.specs.Occurrences.{is_global as is_global_of, is_definition_at, is_common_at};
-ghost use Rattle.cap_syms.specs.Tally.{or_this, decided_by, larger as larger_of, stricter as stricter_of, no_tally, defines as defines_of, defines_weakly as defines_weakly_of, with_symbol, entry_from};
+ghost use Rattle.cap_syms.specs.Tally.{larger as larger_of, stricter as stricter_of, no_tally, defines as defines_of, defines_weakly as defines_weakly_of, rank_of, rank_number, is_highest as is_highest_of, with_symbol, shape_from, entry_from, second_from};
 
 use crate::entries::{Entry, Shape};
 use cap_elf::{Place, Symbol};
@@ -21,34 +21,37 @@ pub(crate) struct Second {
     pub(crate) at: u64,
 }
 
-/// What the occurrences of a name so far say of it.
+/// What an occurrence of a name is. What stands later here counts more.
 #[derive(Clone, Copy, Debug, PartialEq, Eq)]
-pub(crate) struct Tally {
-    /// The first GLOBAL definition.
-    pub(crate) definition: Option<Spot>,
-    /// The GLOBAL definition after it.
-    pub(crate) second: Option<Second>,
-    /// The first common symbol, and the largest size and alignment of all.
-    pub(crate) common: Option<Spot>,
-    pub(crate) size: u64,
-    pub(crate) align: u64,
-    /// The first WEAK definition.
-    pub(crate) weak: Option<Spot>,
-    /// The first GLOBAL occurrence.
-    pub(crate) global: Option<Spot>,
-    /// The first occurrence.
-    pub(crate) first: Option<Spot>,
-    /// The most constraining visibility.
-    pub(crate) visibility: u8,
+pub(crate) enum Rank {
+    /// There is no occurrence.
+    Unseen,
+    WeakReference,
+    GlobalReference,
+    WeakDefinition,
+    Common,
+    GlobalDefinition,
 }
 
-/// The decision on a name without occurrences.
-const NO_ENTRY: Entry = Entry {
-    file: 0,
-    symbol: 0,
-    shape: Shape::Absent { weak: true },
-    visibility: 0,
-};
+/// What the occurrences of a name so far say of it. There is one of these for each name, so it is kept small.
+#[derive(Clone, Copy, Debug, PartialEq, Eq)]
+pub(crate) struct Tally {
+    /// The occurrence that decides: the first of those that count most.
+    spot: Spot,
+    /// The largest size and alignment of all common symbols.
+    size: u64,
+    align: u64,
+    /// The second GLOBAL definition, where there are two.
+    second_at: u64,
+    second_file: u32,
+    has_second: bool,
+    /// What the occurrence that decides is.
+    rank: Rank,
+    /// The most constraining visibility.
+    visibility: u8,
+}
+
+const _: () = prove!(size_of::<Tally>() == 40);
 
 /// Whether a symbol of this place is defined: in a section, or absolute.
 pub(crate) fn is_definition(place: Place) -> bool
@@ -89,23 +92,70 @@ fn defines_weakly(symbol: Symbol) -> bool
     symbol.binding == 2 && is_definition(symbol.place)
 }
 
-/// The earlier one, or else this one where it counts.
-fn or_spot(so_far: Option<Spot>, holds: bool, this: Spot) -> Option<Spot>
-    ensures { result ≡ or_this so_far holds this }
-{
-    match so_far {
-        Some(earlier) => Some(earlier),
-        None => { if holds { Some(this) } else { None } }
+impl Rank {
+    /// What an occurrence with this symbol is.
+    fn of(symbol: Symbol) -> Rank
+        ensures { result ≡ rank_of symbol }
+    {
+        if defines(symbol) {
+            Rank::GlobalDefinition
+        } else if is_common(symbol.place) {
+            Rank::Common
+        } else if defines_weakly(symbol) {
+            Rank::WeakDefinition
+        } else if is_global(symbol) {
+            Rank::GlobalReference
+        } else {
+            Rank::WeakReference
+        }
+    }
+
+    /// How much it counts.
+    fn number(self) -> u8
+        ensures { result ≡ rank_number self }
+    {
+        match self {
+            Rank::Unseen => 0,
+            Rank::WeakReference => 1,
+            Rank::GlobalReference => 2,
+            Rank::WeakDefinition => 3,
+            Rank::Common => 4,
+            Rank::GlobalDefinition => 5,
+        }
+    }
+
+    /// Whether none counts more.
+    fn is_highest(self) -> bool
+        ensures { result ≡ is_highest_of self }
+    {
+        match self {
+            Rank::Unseen
+            | Rank::WeakReference
+            | Rank::GlobalReference
+            | Rank::WeakDefinition
+            | Rank::Common => false,
+            Rank::GlobalDefinition => true,
+        }
+    }
+
+    /// What a name is on which such an occurrence decides, where its common symbols have this size and alignment.
+    fn shape(self, size: u64, align: u64) -> Shape
+        ensures { result ≡ shape_from self size align }
+    {
+        match self {
+            Rank::Unseen | Rank::WeakReference => Shape::Absent { weak: true },
+            Rank::GlobalReference => Shape::Absent { weak: false },
+            Rank::WeakDefinition | Rank::GlobalDefinition => Shape::Defined,
+            Rank::Common => Shape::Common { size, align },
+        }
     }
 }
 
-fn or_second(so_far: Option<Second>, holds: bool, this: Second) -> Option<Second>
-    ensures { result ≡ or_this so_far holds this }
+/// This value where it takes the place of the one so far.
+fn replaced<T: Copy>(so_far: T, holds: bool, value: T) -> T
+    ensures { result ≡ (if holds then value else so_far) }
 {
-    match so_far {
-        Some(earlier) => Some(earlier),
-        None => { if holds { Some(this) } else { None } }
-    }
+    if holds { value } else { so_far }
 }
 
 /// The larger of a number so far and one that may count.
@@ -136,14 +186,13 @@ impl Tally {
         ensures { result ≡ no_tally }
     {
         Tally {
-            definition: None,
-            second: None,
-            common: None,
+            spot: Spot { file: 0, symbol: 0 },
             size: 0,
             align: 0,
-            weak: None,
-            global: None,
-            first: None,
+            second_at: 0,
+            second_file: 0,
+            has_second: false,
+            rank: Rank::Unseen,
             visibility: 0,
         }
     }
@@ -153,58 +202,45 @@ impl Tally {
     pub(crate) fn with(self, spot: Spot, symbol: Symbol) -> Tally
         ensures { result ≡ with_symbol self spot symbol }
     {
-        let second = Second {
-            file: spot.file,
-            at: symbol.at,
-        };
-        let defines = defines(symbol);
+        let rank = Rank::of(symbol);
+        let decides = self.rank.number() < rank.number();
+        let is_second = !self.has_second && self.rank.is_highest() && defines(symbol);
         let is_common = is_common(symbol.place);
         Tally {
-            definition: or_spot(self.definition, defines, spot),
-            second: or_second(self.second, self.definition.is_some() && defines, second),
-            common: or_spot(self.common, is_common, spot),
+            spot: replaced(self.spot, decides, spot),
             size: larger(self.size, is_common, symbol.size),
             align: larger(self.align, is_common, symbol.value),
-            weak: or_spot(self.weak, defines_weakly(symbol), spot),
-            global: or_spot(self.global, is_global(symbol), spot),
-            first: or_spot(self.first, true, spot),
+            second_at: replaced(self.second_at, is_second, symbol.at),
+            second_file: replaced(self.second_file, is_second, spot.file),
+            has_second: self.has_second || is_second,
+            rank: replaced(self.rank, decides, rank),
             visibility: stricter(self.visibility, symbol.visibility),
         }
     }
 
-    /// The decision by the occurrence at a place.
-    fn decided(self, spot: Spot, shape: Shape) -> Entry
-        ensures { result ≡ decided_by self shape spot }
+    /// The second GLOBAL definition, where there is one.
+    pub(crate) fn second(self) -> Option<Second>
+        ensures { result ≡ second_from self }
     {
-        Entry {
-            file: spot.file,
-            symbol: spot.symbol,
-            shape,
-            visibility: self.visibility,
+        if self.has_second {
+            Some(Second {
+                file: self.second_file,
+                at: self.second_at,
+            })
+        } else {
+            None
         }
     }
 
     /// The decision on the name.
-    #[tactic(auto, unfolding(crate::specs::Tally::entry_from))]
     pub(crate) fn entry(self) -> Entry
         ensures { result ≡ entry_from self }
     {
-        if let Some(spot) = self.definition {
-            return self.decided(spot, Shape::Defined);
-        }
-        if let Some(spot) = self.common {
-            let (size, align) = (self.size, self.align);
-            return self.decided(spot, Shape::Common { size, align });
-        }
-        if let Some(spot) = self.weak {
-            return self.decided(spot, Shape::Defined);
-        }
-        if let Some(spot) = self.global {
-            return self.decided(spot, Shape::Absent { weak: false });
-        }
-        match self.first {
-            Some(spot) => self.decided(spot, Shape::Absent { weak: true }),
-            None => NO_ENTRY,
+        Entry {
+            file: self.spot.file,
+            symbol: self.spot.symbol,
+            shape: self.rank.shape(self.size, self.align),
+            visibility: self.visibility,
         }
     }
 }

@@ -1,5 +1,5 @@
-use Rattle.std.proofs.Common.{◌≡◌, List, ℕ, sym, ap, ◌∙◌}
-use Rattle.cap_syms.specs.declared.decision.Decision.{Decision}
+use Rattle.std.proofs.Common.{◌≡◌, Bool, List, ℕ, sym, ap, ◌∙◌}
+use Rattle.cap_syms.specs.declared.tally.Tally.{Tally}
 use Rattle.cap_syms.specs.Resolved.{index_of}
 use Rattle.cap_syms.proofs.TableLemmas.{table_of, index-is}
 use Rattle.cap_syms.proofs.table.Table.find_at.Goals as goal
@@ -7,19 +7,21 @@ use Rattle.cap_syms.proofs.table.Table.find_at.Goals as goal
 pub returns-in-Some : goal.returns-in-Some
 returns-in-Some c =
     let names : List (List ℕ) = c.self.inside.names in
-    let ds : List Decision = c.self.inside.decisions.items in
-    let view : table_of names ds ≡ c.args.self.now = c.self.view_is in
+    let program : Bool = c.self.inside.program in
+    let ts : List Tally = c.self.inside.tallies.items in
+    let view : table_of program names ts ≡ c.args.self.now = c.self.view_is in
     sym c.in-Some.is
     ∙ c.find_at.ensures
-    ∙ sym (index-is c.args.name.now names ds c.self.invariant.0)
+    ∙ sym (index-is c.args.name.now program names ts c.self.invariant.0)
     ∙ ap (λ t. index_of t c.args.name.now) view
 
 pub returns-in-None : goal.returns-in-None
 returns-in-None c =
     let names : List (List ℕ) = c.self.inside.names in
-    let ds : List Decision = c.self.inside.decisions.items in
-    let view : table_of names ds ≡ c.args.self.now = c.self.view_is in
+    let program : Bool = c.self.inside.program in
+    let ts : List Tally = c.self.inside.tallies.items in
+    let view : table_of program names ts ≡ c.args.self.now = c.self.view_is in
     sym c.in-None.is
     ∙ c.find_at.ensures
-    ∙ sym (index-is c.args.name.now names ds c.self.invariant.0)
+    ∙ sym (index-is c.args.name.now program names ts c.self.invariant.0)
     ∙ ap (λ t. index_of t c.args.name.now) view

@@ -1,22 +1,25 @@
-use Rattle.std.proofs.Common.{◌≡◌, ◌<◌, List, ℕ, length, sym, ap, ◌∙◌, arith}
-use Rattle.cap_syms.specs.declared.decision.Decision.{Decision}
+use Rattle.std.proofs.Common.{◌≡◌, Bool, ◌<◌, List, ℕ, length, sym, ap, ◌∙◌, arith}
+use Rattle.cap_syms.specs.declared.tally.Tally.{Tally}
 use Rattle.cap_syms.specs.Resolved.{row_of}
-use Rattle.cap_syms.proofs.TableLemmas.{table_of, row-is, length-table, no_decision}
+use Rattle.cap_syms.specs.Tally.{no_tally}
+use Rattle.cap_syms.proofs.TableLemmas.{table_of, row-is, length-table}
 use Rattle.cap_syms.proofs.table.Table.name.Goals as goal
 
 pub name-requires : goal.name-requires
 name-requires c =
     let names : List (List ℕ) = c.self.inside.names in
-    let ds : List Decision = c.self.inside.decisions.items in
-    let view : table_of names ds ≡ c.args.self.now = c.self.view_is in
-    omega (arith, c.requires, ap length view, length-table names ds c.self.invariant.0, c.self.invariant.0)
+    let program : Bool = c.self.inside.program in
+    let ts : List Tally = c.self.inside.tallies.items in
+    let view : table_of program names ts ≡ c.args.self.now = c.self.view_is in
+    omega (arith, c.requires, ap length view, length-table program names ts c.self.invariant.0, c.self.invariant.0)
 
 pub returns : goal.returns
 returns c =
     let names : List (List ℕ) = c.self.inside.names in
-    let ds : List Decision = c.self.inside.decisions.items in
-    let view : table_of names ds ≡ c.args.self.now = c.self.view_is in
-    let lt : c.args.row < length ds = omega (arith, c.requires, ap length view, length-table names ds c.self.invariant.0) in
+    let program : Bool = c.self.inside.program in
+    let ts : List Tally = c.self.inside.tallies.items in
+    let view : table_of program names ts ≡ c.args.self.now = c.self.view_is in
+    let lt : c.args.row < length ts = omega (arith, c.requires, ap length view, length-table program names ts c.self.invariant.0) in
     c.name.ensures
-    ∙ sym (ap (λ r. r.name) (row-is names ds c.self.invariant.0 c.args.row no_decision lt))
+    ∙ sym (ap (λ r. r.name) (row-is program names ts c.self.invariant.0 c.args.row no_tally lt))
     ∙ ap (λ t. (row_of t c.args.row).name) view
