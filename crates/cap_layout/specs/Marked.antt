@@ -4,9 +4,9 @@ use Rattle.std.specs.List.{range_with_len}
 use Rattle.cap_elf.specs.declared.records.Section.{Section}
 use Rattle.cap_elf.specs.declared.records.Symbol.{Symbol}
 use Rattle.cap_elf.specs.Classes.{is_split}
-use Rattle.cap_elf.specs.RelObject.{RelObject}
+use Rattle.cap_elf.specs.RelObject.{RelObject, no_section}
 use Rattle.cap_layout.specs.declared.piece.Piece.{Piece}
-use Rattle.cap_layout.specs.Cuts.{marks, cut_section}
+use Rattle.cap_layout.specs.Cuts.{ascending, marks, cut_section}
 use Rattle.cap_layout.specs.Pieces.{split_piece, whole_piece}
 
 -- the marks of each section of a file
@@ -26,9 +26,9 @@ cut_pieces file place section marks =
 abbrev pub AreMarksOf : ℕ → List ℕ → Type 0
 AreMarksOf size marks = ((k : ℕ) → k + 1 < length marks → slice_index marks k < slice_index marks (k + 1)) × ((k : ℕ) → k < length marks → slice_index marks k ≤ size)
 
--- the two ends of a section
-abbrev pub ends_of : Section → List ℕ
-ends_of s = 0 ∷ s.size ∷ []
+-- where a section begins
+abbrev pub start_of : Section → List ℕ
+start_of s = 0 ∷ []
 
 -- one list more grows, where there is a section
 abbrev pub with_cut_at : List (List ℕ) → Symbol → Option ℕ → List (List ℕ)
@@ -38,3 +38,7 @@ with_cut_at lists s (Some n) = slice_set lists n (slice_index_or lists n [] ++ s
 -- the two ends of the cut of a symbol go to the list of its section
 abbrev pub with_cut : List Section → List (List ℕ) → Symbol → List (List ℕ)
 with_cut sections lists s = with_cut_at lists s (cut_section sections s)
+
+-- the marks of a section, of whose list the end is still missing
+abbrev pub closed : List Section → List (List ℕ) → ℕ → List ℕ
+closed sections lists n = ascending (slice_index_or lists n [] ++ (slice_index_or sections n no_section).size ∷ [])

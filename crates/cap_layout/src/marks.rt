@@ -1,10 +1,11 @@
 //! The marks of the sections of a file: the ends of their cuts.
 
 ghost use Rattle.std.specs.Prelude.{◌≡◌, ◌∷◌, [], ◌++◌, ◌+◌, ◌^◌, ◌<◌, ◌≤◌, List, ℕ, IfOk, OnOk, IfSome, IsSome, length, map, fold, All};
+ghost use Rattle.std.specs.List.{range_with_len};
 ghost use Rattle.std.specs.List.Sorted.{IsNonDecreasing};
 ghost use Rattle.cap_elf.specs.RelObject.{RelObject};
 ghost use Rattle.cap_layout.specs.Cuts.{ascending, cut_section};
-ghost use Rattle.cap_layout.specs.Marked.{ends_of, mark_lists, with_cut};
+ghost use Rattle.cap_layout.specs.Marked.{start_of, closed, mark_lists, with_cut};
 
 use crate::overlap::cut_of;
 use cap_base::NoMemory;
@@ -31,7 +32,7 @@ fn distinct(alloc: Global, sorted: &[u64]) -> Result<Vec<u64>, NoMemory>
     requires { IsNonDecreasing sorted.now }
     ensures { IfOk result (λ marks. marks.items ≡ ascending sorted.now) }
 {
-    let mut marks = Vec::new(alloc);
+    let mut marks = Vec::with_capacity(alloc, sorted.len())?;
     if !sorted.is_empty() {
         marks.push(sorted[0])?;
         for i in 1..sorted.len() {
@@ -52,13 +53,12 @@ pub(crate) fn ascending_marks(alloc: Global, ends: &mut [u64]) -> Result<Vec<u64
 }
 
 impl Marks {
-    /// The two ends of a section of this size.
-    fn new(alloc: Global, size: u64) -> Result<Marks, NoMemory>
-        ensures { IfOk result (λ m. m ≡ 0 ∷ size ∷ []) }
+    /// Where a section begins.
+    fn new(alloc: Global) -> Result<Marks, NoMemory>
+        ensures { IfOk result (λ m. m ≡ 0 ∷ []) }
     {
         let mut places = Vec::new(alloc);
         places.push(0)?;
-        places.push(size)?;
         Ok(Marks { places })
     }
 
@@ -71,11 +71,14 @@ impl Marks {
         Ok(())
     }
 
-    /// The same in ascending order, each once.
-    fn ascending(&self, alloc: Global) -> Result<Marks, NoMemory>
-        ensures { IfOk result (λ m. m ≡ ascending self.now) }
+    /// The same and the end of the section, in ascending order, each once. Cuts mostly come in that order, and to sort
+    /// them then takes one pass; so the end comes last.
+    fn ascending(&self, alloc: Global, end: u64) -> Result<Marks, NoMemory>
+        ensures { IfOk result (λ m. m ≡ ascending (self.now ++ end ∷ [])) }
     {
-        let mut places = self.places.as_slice().to_vec(alloc)?;
+        let mut places = Vec::with_capacity(alloc, self.places.len() + 1)?;
+        places.extend_from_slice(&self.places)?;
+        places.push(end)?;
         let places = ascending_marks(alloc, &mut places)?;
         Ok(Marks { places })
     }
@@ -88,13 +91,13 @@ impl Marks {
     }
 }
 
-/// The two ends of each section.
-fn section_ends(alloc: Global, sections: &[Section]) -> Result<Vec<Marks>, NoMemory>
-    ensures { IfOk result (λ lists. lists.items ≡ map ends_of sections.now) }
+/// Where each section begins.
+fn section_starts(alloc: Global, sections: &[Section]) -> Result<Vec<Marks>, NoMemory>
+    ensures { IfOk result (λ lists. lists.items ≡ map start_of sections.now) }
 {
     let mut lists = Vec::new(alloc);
     for section in sections {
-        lists.push(Marks::new(alloc, section.size)?)?;
+        lists.push(Marks::new(alloc)?)?;
     }
     Ok(lists)
 }
@@ -112,25 +115,30 @@ fn add_cut(lists: &mut Vec<Marks>, sections: &[Section], symbol: &Symbol) -> Res
     Ok(())
 }
 
-/// The ends of each section and of its cuts, in the order of the symbols.
+/// The start of each section and the ends of its cuts, in the order of the symbols.
 fn cut_ends(alloc: Global, sections: &[Section], symbols: &[Symbol]) -> Result<Vec<Marks>, NoMemory>
     requires { All (λ s. IsSome (cut_section sections.now s) → s.value + s.size < 2 ^ 64) symbols.now }
-    ensures { IfOk result (λ lists. lists.items ≡ fold (with_cut sections.now) (map ends_of sections.now) symbols.now) }
+    ensures { IfOk result (λ lists. lists.items ≡ fold (with_cut sections.now) (map start_of sections.now) symbols.now) }
 {
-    let mut lists = section_ends(alloc, sections)?;
+    let mut lists = section_starts(alloc, sections)?;
     for symbol in symbols {
         add_cut(&mut lists, sections, symbol)?;
     }
     Ok(lists)
 }
 
-/// Each list in ascending order, each mark once.
-fn all_ascending(alloc: Global, lists: &[Marks]) -> Result<Vec<Marks>, NoMemory>
-    ensures { IfOk result (λ marks. marks.items ≡ map ascending lists.now) }
+/// Each list with the end of its section, in ascending order, each mark once.
+fn all_ascending(
+    alloc: Global,
+    sections: &[Section],
+    lists: &[Marks],
+) -> Result<Vec<Marks>, NoMemory>
+    requires { length lists.now ≡ length sections.now }
+    ensures { IfOk result (λ marks. marks.items ≡ map (closed sections.now lists.now) (range_with_len 0 (length sections.now))) }
 {
     let mut marks = Vec::new(alloc);
-    for list in lists {
-        marks.push(list.ascending(alloc)?)?;
+    for i in 0..sections.len() {
+        marks.push(lists[i].ascending(alloc, sections[i].size)?)?;
     }
     Ok(marks)
 }
@@ -141,7 +149,7 @@ pub(crate) fn marks_of(alloc: Global, rel: &RelFile) -> Result<FileMarks, NoMemo
 {
     let lists = cut_ends(alloc, rel.sections(), rel.symbols())?;
     Ok(FileMarks {
-        lists: all_ascending(alloc, &lists)?,
+        lists: all_ascending(alloc, rel.sections(), &lists)?,
     })
 }
 
