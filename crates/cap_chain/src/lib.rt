@@ -1,6 +1,7 @@
 //! Look-up of names by the hash table of the System V gABI (DT_HASH): chains of indices, one for each bucket.
 //!
-//! - `hash` is the hash of a name. `build` makes the words of a new table, in which each chain descends.
+//! - `hash` is the hash of a name. `words_of_hashes` makes the words of a new table, in which each chain descends, from
+//!   the hashes of its names alone; `build` makes the table of these words and the names.
 //! - `adopt` takes the words that a file has. They may lead anywhere: past the names, in a ring, from one chain into
 //!   another, or past a defined name. It goes through all chains once, with a mark for each index, so that its work is
 //!   in proportion to the words, and accepts exactly the sound tables.
@@ -21,7 +22,7 @@ mod hashing;
 mod laws;
 
 pub use adopting::{AdoptRefusal, adopt};
-pub use building::build;
+pub use building::{build, words_of_hashes};
 pub use chains::Chains;
 pub use hashing::hash;
 pub use laws::built_are_sound;

@@ -4,7 +4,8 @@ use Rattle.std.specs.List.{flat_map}
 use Rattle.std.proofs.lemmas.List.{length-map}
 use Rattle.std.proofs.lemmas.List.FromFn.{length-map-range_with_len}
 use Rattle.std.proofs.lemmas.Slice.Zip.{length-zip}
-use Rattle.cap_chain.specs.Words.{built_words, bucket_words, name_words, bucket_count, bucket_of, last_in}
+use Rattle.cap_chain.specs.Hash.{hash_of}
+use Rattle.cap_chain.specs.Words.{words_of, bucket_words, name_words, bucket_count, bucket_of, last_in}
 use Rattle.cap_elf.specs.declared.records.CapReloc.{CapReloc}
 use Rattle.cap_elf.specs.declared.records.DynReloc.{DynReloc}
 use Rattle.cap_layout.specs.declared.parts.Parts.{Parts}
@@ -63,16 +64,17 @@ pub entries_size : (entries : List DynEntry) (n : ℕ) → length entries ≤ n 
 entries_size entries n le = omega (arith, le, length_records entry_bytes 16 entries length_entry)
 
 -- the words of a table of n names
-length_built : (names : List (List ℕ)) (n : ℕ) → length names ≡ n → length (built_words names) ≡ hash_words_of n
-length_built names n e =
-    let count = length names in
+length_built : (hashes : List ℕ) (n : ℕ) → length hashes ≡ n → length (words_of hashes) ≡ hash_words_of n
+length_built hashes n e =
+    let count = length hashes in
     let buckets = bucket_count count in
-    let one = length-map-range_with_len (λ bucket. last_in names buckets bucket count) 0 buckets in
-    let two = length-map-range_with_len (λ i. last_in names buckets (bucket_of names buckets i) i) 0 count in
-    let parts : length (built_words names) ≡ 2 + buckets + count = omega (arith, one, two, length-append (bucket_words names buckets count) (name_words names buckets count)) in
+    let one = length-map-range_with_len (λ bucket. last_in hashes buckets bucket count) 0 buckets in
+    let two = length-map-range_with_len (λ i. last_in hashes buckets (bucket_of hashes buckets i) i) 0 count in
+    let parts : length (words_of hashes) ≡ 2 + buckets + count = omega (arith, one, two, length-append (bucket_words hashes buckets count) (name_words hashes buckets count)) in
     parts ∙ ap (λ k. 2 + bucket_count k + k) e
 
 pub hash_size : (table : CapTableValue) (n : ℕ) → length table.symbols ≡ n → length (flat_map (field_bytes 4) (hash_words table)) ≤ 4 * hash_words_of n
 hash_size table n e =
-    let words = length_built (map (λ s. s.name) table.symbols) n (length-map table.symbols (λ s. s.name) ∙ e) in
+    let names = map (λ s. s.name) table.symbols in
+    let words = length_built (map hash_of names) n (length-map names hash_of ∙ length-map table.symbols (λ s. s.name) ∙ e) in
     omega (arith, length_records (field_bytes 4) 4 (hash_words table) length_word, words)

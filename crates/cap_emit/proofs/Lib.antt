@@ -7,4 +7,3 @@ mod Growing
 mod Law
 mod Lengths
 mod Listed
-mod Undefined

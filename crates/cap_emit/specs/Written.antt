@@ -1,5 +1,5 @@
 -- What is written so far, and what is written next.
-use Rattle.std.specs.Prelude.{ℕ, ◌-◌, Bool, false, if◌then◌else◌, List, [], ◌∷◌, ◌++◌, map, filter, zip, length, drop}
+use Rattle.std.specs.Prelude.{ℕ, ◌-◌, if◌then◌else◌, List, [], ◌∷◌, ◌++◌, map, filter, zip, length, drop}
 use Rattle.std.specs.List.{flat_map}
 use Rattle.cap_elf.specs.declared.records.Class.{Class}
 use Rattle.cap_elf.specs.declared.records.Class.TheVariants.{Code, Init, Fini, Relro}
@@ -7,7 +7,7 @@ use Rattle.cap_elf.specs.Classes.{same_class}
 use Rattle.cap_layout.specs.declared.parts.Parts.{Parts}
 use Rattle.cap_layout.specs.Points.{Laid, address_of}
 use Rattle.cap_layout.specs.Pieces.{piece_of}
-use Rattle.cap_table.specs.Lists.{CapTableValue, DynSymbolValue}
+use Rattle.cap_table.specs.Lists.{CapTableValue}
 use Rattle.cap_table.specs.Bodies.{BodiesValue, zeros, piece_bytes}
 use Rattle.cap_emit.specs.Spread.{Chunk}
 use Rattle.cap_emit.specs.Records.{field_bytes, segment_headers, symbol_bytes, rela_bytes, cap_reloc_bytes, entry_bytes}
@@ -34,10 +34,6 @@ rela_table table = flat_map rela_bytes table.relas
 
 unfoldable pub cap_reloc_table : CapTableValue → List ℕ
 cap_reloc_table table = flat_map cap_reloc_bytes table.cap_relocs
-
--- the names of the symbols, of which none counts as defined
-unfoldable pub undefined_names : List DynSymbolValue → List (List ℕ × Bool)
-undefined_names symbols = map (λ s. (s.name, false)) symbols
 
 unfoldable pub hash_table : CapTableValue → List ℕ
 hash_table table = flat_map (field_bytes 4) (hash_words table)

@@ -1,13 +1,14 @@
 //! The headers of the segments and the tables of a linked file, each appended to it.
 
 ghost use Rattle.std.specs.Prelude.{◌≡◌, ◌+◌, ◌*◌, ◌^◌, ◌<◌, ◌≤◌, ◌++◌, length, map, IfOk, OnOk};
+ghost use Rattle.cap_chain.specs.Hash.{hash_of};
 ghost use Rattle.cap_chain.specs.Words.{built_words};
 ghost use Rattle.cap_emit.specs.Records.{segment_from, segment_headers};
-ghost use Rattle.cap_emit.specs.Written.{padded, symbol_table, rela_table, cap_reloc_table, undefined_names, hash_table, dynamic_table};
+ghost use Rattle.cap_emit.specs.Written.{padded, symbol_table, rela_table, cap_reloc_table, hash_table, dynamic_table};
 
 use crate::records::{push_cap_reloc, push_entry, push_rela, push_segment, push_symbol, push_u32};
-use cap_base::{NameList, NoMemory};
-use cap_chain::{Chains, build};
+use cap_base::NoMemory;
+use cap_chain::{hash, words_of_hashes};
 use cap_elf::Segment;
 use cap_layout::Parts;
 use cap_table::{CapTable, DynSymbol};
@@ -110,26 +111,25 @@ pub(crate) fn push_cap_relocs(file: &mut Vec<u8>, lists: &CapTable<'_>) -> Resul
     Ok(())
 }
 
-/// The names of symbols. None counts as defined: what is asked for is the words of their table alone.
-#[tactic(auto, unfolding(crate::specs::Written::undefined_names))]
-fn names_of(alloc: Global, symbols: &[DynSymbol<'_>]) -> Result<NameList, NoMemory>
-    ensures { IfOk result (λ names. names ≡ undefined_names symbols.now) }
+/// The hashes of the names of symbols.
+fn hashes_of(alloc: Global, symbols: &[DynSymbol<'_>]) -> Result<Vec<u32>, NoMemory>
+    ensures { IfOk result (λ hashes. hashes.items ≡ map hash_of (map (λ s. s.name) symbols.now)) }
 {
-    let mut names = NameList::new(alloc);
+    let mut hashes = Vec::with_capacity(alloc, symbols.len())?;
     for symbol in symbols {
-        names.push(symbol.name, false)?;
+        hashes.push(hash(symbol.name))?;
     }
-    Ok(names)
+    Ok(hashes)
 }
 
-/// The hash table of the names of symbols, that of the null symbol too.
-#[tactic(auto, using(crate::proofs::Undefined::undefined_distinct, crate::proofs::Undefined::undefined_first, crate::proofs::Undefined::undefined_count, crate::proofs::Undefined::undefined_are))]
-pub(crate) fn chains_of(alloc: Global, symbols: &[DynSymbol<'_>]) -> Result<Chains, NoMemory>
+/// The words of the hash table of the names of symbols, that of the null symbol too.
+fn words_of_symbols(alloc: Global, symbols: &[DynSymbol<'_>]) -> Result<Vec<u32>, NoMemory>
     requires some { 1 ≤ length symbols.now }
     requires few { length symbols.now ≤ 2 ^ 20 }
-    ensures { IfOk result (λ chains. chains.words ≡ built_words (map (λ s. s.name) symbols.now)) }
+    ensures { IfOk result (λ words. words.items ≡ built_words (map (λ s. s.name) symbols.now)) }
 {
-    build(alloc, names_of(alloc, symbols)?)
+    let hashes = hashes_of(alloc, symbols)?;
+    words_of_hashes(alloc, &hashes)
 }
 
 /// Appends the words of the hash table (DT_HASH).
@@ -143,8 +143,8 @@ pub(crate) fn push_hash(
     requires few { length lists.now.symbols ≤ 2 ^ 20 }
     ensures { OnOk result (file.new.items ≡ file.old.items ++ hash_table lists.now) }
 {
-    let chains = chains_of(alloc, lists.symbols())?;
-    for word in chains.words() {
+    let words = words_of_symbols(alloc, lists.symbols())?;
+    for word in &words {
         push_u32(file, *word)?;
     }
     Ok(())

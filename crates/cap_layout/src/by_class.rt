@@ -6,6 +6,7 @@ ghost use Rattle.cap_layout.specs.Places.{of_class};
 ghost use Rattle.cap_layout.specs.PieceOrder.{rank as rank_of};
 ghost use Rattle.cap_layout.specs.ByClass.{no_span, extended, AreSpans, IsSpanOf};
 
+use crate::finding::rank;
 use crate::piece::Piece;
 use cap_base::NoMemory;
 use cap_elf::Class;
@@ -40,22 +41,6 @@ impl<'a> Model for ByClass<'a> {
     ghost invariant = { λ b. AreSpans b.spans.items b.pieces.now (length b.pieces.now) };
 }
 
-fn rank(class: Class) -> usize
-    ensures value { result ≡ rank_of class }
-    ensures below { result < 8 }
-{
-    match class {
-        Class::Ro => 0,
-        Class::Code => 1,
-        Class::Init => 2,
-        Class::Fini => 3,
-        Class::Relro => 4,
-        Class::Data => 5,
-        Class::Bss => 6,
-        Class::Dropped => 7,
-    }
-}
-
 impl Span {
     /// The span with one more piece, behind all in it.
     fn with(self, i: usize) -> Span
@@ -77,12 +62,13 @@ impl Span {
 }
 
 /// Takes in the piece of this number, of this class.
+#[tactic(auto, using(crate::proofs::ClassSpans::rank_below))]
 fn add(spans: &mut Vec<Span>, class: Class, i: usize)
     requires count { length spans.old.items ≡ 8 }
     requires small { i < 2 ^ 63 }
     ensures { spans.new.items ≡ slice_set spans.old.items (rank_of class) (extended (slice_index_or spans.old.items (rank_of class) no_span) i) }
 {
-    let r = rank(class);
+    let r = rank(class) as usize;
     spans[r] = spans[r].with(i);
 }
 
@@ -114,10 +100,11 @@ impl<'a> ByClass<'a> {
     }
 
     /// The number of the first piece of a class, and that behind the last. Among them may be pieces of other classes.
+    #[tactic(auto, using(crate::proofs::ClassSpans::rank_below, crate::proofs::ClassSpans::span_is))]
     pub fn span(&self, class: Class) -> (usize, usize)
         ensures { IsSpanOf self.now class result.0 result.1 }
     {
-        let span = self.spans[rank(class)];
+        let span = self.spans[rank(class) as usize];
         (span.first, span.end)
     }
 

@@ -11,7 +11,7 @@ use crate::piece::Piece;
 use cap_elf::Class;
 
 /// The place of a class in the order of the pieces.
-fn rank(class: Class) -> u8
+pub(crate) fn rank(class: Class) -> u8
     ensures { result ≡ rank_of class }
 {
     match class {
