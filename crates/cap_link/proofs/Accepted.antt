@@ -5,6 +5,7 @@ use Rattle.std.specs.Int.{is_power_of_two}
 use Rattle.std.specs.List.{range_with_len, AllByRecursion}
 use Rattle.std.specs.Option.{option_map, option_and_then}
 use Rattle.cap_base.specs.declared.kind.Kind.{Kind}
+use Rattle.cap_chain.specs.Hash.{hash_of}
 use Rattle.cap_chain.specs.Words.{bucket_count, bucket_of, last_below, last_in, bucket_words, name_words}
 use Rattle.cap_elf.specs.declared.records.Class.TheVariants.{Ro, Code, Init, Fini, Relro, Data}
 use Rattle.cap_elf.specs.declared.records.Place.{Place}
@@ -39,7 +40,7 @@ use Rattle.cap_link.specs.Laws.{IsAccepted}
 use Rattle.cap_link.specs.Content.{planned_from, names_of_symbols, named_symbols, own_at, needed_at, content_of, pieces_by_class}
 use Rattle.cap_link.proofs.Made.{AreListed, IsLaidOut}
 use Rattle.cap_link.proofs.Naming.{named-is, planned-length}
-use Rattle.cap_link.proofs.Viewing.{length-texts}
+use Rattle.cap_link.proofs.Viewing.{length-hashes}
 use Rattle.cap_link.proofs.Placing.{IsLow, all-both}
 use Rattle.cap_link.proofs.Segmented.{ordered-are}
 use Rattle.cap_link.proofs.Planning.{IsBuilt, layout-is}
@@ -138,14 +139,14 @@ range-below : (limit i n : ℕ) → i + n ≤ limit → AllByRecursion (λ k. k 
 range-below limit i zero h = tt
 range-below limit i (suc n) h = (omega (arith, h), range-below limit (i + 1) n (omega (arith, h)))
 
-words-low : (texts : List (List ℕ)) (buckets n : ℕ) → n ≤ 2 ^ 20 → AllByRecursion IsWord32 (bucket_words texts buckets n ++ name_words texts buckets n)
-words-low texts buckets n few =
-    let firsts : AllByRecursion IsWord32 (bucket_words texts buckets n) =
-    all-of-map IsWord32 (λ b. last_in texts buckets b n) (range_with_len 0 buckets) (λ b. let h = last-low (λ (i : ℕ). bucket_of texts buckets i == b) n in omega (arith, h, few)) in
-    let links : AllByRecursion IsWord32 (name_words texts buckets n) =
-    all-mapped (λ (k : ℕ). k ≤ n) IsWord32 (λ i. last_in texts buckets (bucket_of texts buckets i) i) (range_with_len 0 n)
-    (λ i le. let h = last-low (λ (k : ℕ). bucket_of texts buckets k == bucket_of texts buckets i) i in omega (arith, h, le, few)) (range-below n 0 n (omega arith)) in
-    all-both IsWord32 (bucket_words texts buckets n) (name_words texts buckets n) firsts links
+words-low : (hashes : List ℕ) (buckets n : ℕ) → n ≤ 2 ^ 20 → AllByRecursion IsWord32 (bucket_words hashes buckets n ++ name_words hashes buckets n)
+words-low hashes buckets n few =
+    let firsts : AllByRecursion IsWord32 (bucket_words hashes buckets n) =
+    all-of-map IsWord32 (λ b. last_in hashes buckets b n) (range_with_len 0 buckets) (λ b. let h = last-low (λ (i : ℕ). bucket_of hashes buckets i == b) n in omega (arith, h, few)) in
+    let links : AllByRecursion IsWord32 (name_words hashes buckets n) =
+    all-mapped (λ (k : ℕ). k ≤ n) IsWord32 (λ i. last_in hashes buckets (bucket_of hashes buckets i) i) (range_with_len 0 n)
+    (λ i le. let h = last-low (λ (k : ℕ). bucket_of hashes buckets k == bucket_of hashes buckets i) i in omega (arith, h, le, few)) (range-below n 0 n (omega arith)) in
+    all-both IsWord32 (bucket_words hashes buckets n) (name_words hashes buckets n) firsts links
 
 -- ---- the laws of the lower crates
 pub record LowerLaws : Type 0 where
@@ -188,9 +189,9 @@ slots-planned needed soname l h = ap (λ (p : Planned). p.sizes.slots) h.is ∙ 
 more-words : (l : Linked) → AreListed l → length l.lists.symbols ≤ 2 ^ 20 → AllByRecursion IsWord32 (content_of l).more
 unfolding content_of
 more-words l h few =
-    let texts = names_of_symbols l.lists.symbols in
-    let n = length texts in
-    words-low texts (bucket_count n) n (omega (arith, length-texts l.lists.symbols, few))
+    let hashes = map hash_of (names_of_symbols l.lists.symbols) in
+    let n = length hashes in
+    words-low hashes (bucket_count n) n (omega (arith, length-hashes l.lists.symbols, few))
 
 some-bucket : (l : Linked) → 0 < (content_of l).buckets
 unfolding content_of

@@ -3,6 +3,7 @@ use Rattle.std.proofs.lemmas.List.FromFn.{length-range_with_len}
 use Rattle.std.proofs.Common.{◌≡◌, length-append, ℕ, ◌+◌, ◌-◌, ◌*◌, ◌^◌, ◌≤◌, Bool, true, false, cond, List, [], ◌∷◌, length, map, refl, sym, ap, ◌∙◌, arith}
 use Rattle.std.specs.Int.{next_multiple_of, is_power_of_two}
 use Rattle.std.specs.List.{range_with_len}
+use Rattle.cap_chain.specs.Hash.{hash_of}
 use Rattle.cap_chain.specs.Words.{bucket_count, bucket_of, last_in, bucket_words, name_words}
 use Rattle.cap_conc.specs.Computed.{representable_length}
 use Rattle.cap_elf.specs.declared.records.Class.{Class}
@@ -17,7 +18,7 @@ use Rattle.cap_link.specs.Linked.{Linked}
 use Rattle.cap_link.specs.Content.{planned_from, names_of_symbols, named_symbols, content_of, filled_of, pieces_by_class}
 use Rattle.cap_link.proofs.Made.{AreListed, AreSized, IsLaidOut}
 use Rattle.cap_link.proofs.Naming.{planned-length}
-use Rattle.cap_link.proofs.Viewing.{length-texts}
+use Rattle.cap_link.proofs.Viewing.{length-hashes}
 use Rattle.cap_link.proofs.Dynamics.{pair_of, strings-long, dynamics-are}
 use Rattle.cap_link.proofs.Placing.{last-end-is, array-end-is, array-start-is}
 
@@ -110,13 +111,13 @@ hash-end l h s =
 word-count : (l : Linked) → AreListed l → length (content_of l).more ≡ (content_of l).buckets + symbol_count (content_of l)
 unfolding content_of
 word-count l h =
-    let texts = names_of_symbols l.lists.symbols in
-    let n = length texts in
-    let k : n ≡ 1 + length (planned_from 1 (named_symbols l)) = omega (arith, length-texts l.lists.symbols, ap length h.symbols, planned-length 1 (named_symbols l)) in
-    let a : length (bucket_words texts (bucket_count n) n) ≡ bucket_count n = length-map (λ (b : ℕ). last_in texts (bucket_count n) b n) (range_with_len 0 (bucket_count n)) ∙ length-range_with_len 0 (bucket_count n) in
-    let b : length (name_words texts (bucket_count n) n) ≡ n = length-map (λ (i : ℕ). last_in texts (bucket_count n) (bucket_of texts (bucket_count n) i) i) (range_with_len 0 n) ∙ length-range_with_len 0 n in
-    let c : bucket_count n ≡ bucket_count (length l.lists.symbols) = ap bucket_count (length-texts l.lists.symbols) in
-    omega (arith, length-append (bucket_words texts (bucket_count n) n) (name_words texts (bucket_count n) n), a, b, c, k)
+    let hashes = map hash_of (names_of_symbols l.lists.symbols) in
+    let n = length hashes in
+    let k : n ≡ 1 + length (planned_from 1 (named_symbols l)) = omega (arith, length-hashes l.lists.symbols, ap length h.symbols, planned-length 1 (named_symbols l)) in
+    let a : length (bucket_words hashes (bucket_count n) n) ≡ bucket_count n = length-map (λ (b : ℕ). last_in hashes (bucket_count n) b n) (range_with_len 0 (bucket_count n)) ∙ length-range_with_len 0 (bucket_count n) in
+    let b : length (name_words hashes (bucket_count n) n) ≡ n = length-map (λ (i : ℕ). last_in hashes (bucket_count n) (bucket_of hashes (bucket_count n) i) i) (range_with_len 0 n) ∙ length-range_with_len 0 n in
+    let c : bucket_count n ≡ bucket_count (length l.lists.symbols) = ap bucket_count (length-hashes l.lists.symbols) in
+    omega (arith, length-append (bucket_words hashes (bucket_count n) n) (name_words hashes (bucket_count n) n), a, b, c, k)
 
 pub layout-is : (l : Linked) → AreListed l → AreSized l → IsLaidOut l → IsBuilt l → ((x : ℕ) → x ≤ representable_length x) → IsLayout (content_of l) (pieces_by_class l)
 unfolding content_of pieces_by_class
