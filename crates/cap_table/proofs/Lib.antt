@@ -1,5 +1,6 @@
 pub mod FillPieces
 pub mod FillFacts
+pub mod FillEntered
 pub mod NameLemmas
 pub mod FillNumbers
 pub mod BodyHeld

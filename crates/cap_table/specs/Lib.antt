@@ -7,6 +7,7 @@ pub mod Planned
 pub mod Gathered
 pub mod Counted
 pub mod Lists
+pub mod Entered
 pub mod Bodies
 pub mod Facts
 pub mod Numbers

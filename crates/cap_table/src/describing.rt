@@ -1,19 +1,17 @@
 //! The descriptions of capabilities in `__cap_relocs`.
 
-ghost use Rattle.std.specs.Prelude.{◌≡◌, IfOk};
+ghost use Rattle.std.specs.Prelude.{◌≡◌};
 ghost use Rattle.std.specs.Option.{option_map_or};
 ghost use Rattle.cap_layout.specs.Points.{offset_of};
 ghost use Rattle.cap_table.specs.Planned.{is_described};
-ghost use Rattle.cap_table.specs.Lists.{permissions_of, nothing_described, described, loose_described, interval_described, section_number, cap_reloc_of, cap_relocs_of};
+ghost use Rattle.cap_table.specs.Lists.{permissions_of, nothing_described, described, loose_described, interval_described, section_number, cap_reloc_of};
 
 use crate::meaning::{interval, is_address, is_loose};
 use crate::sources::Sources;
 use crate::target::Target;
 use crate::wants::{CAPABILITY, Want};
-use cap_base::NoMemory;
 use cap_elf::{CapReloc, Class, Place};
 use cap_layout::{Layout, Piece};
-use std::alloc::Global;
 
 /// What a description says: where the object begins, the offset in it, and its size.
 #[derive(Clone, Copy, Debug, PartialEq, Eq)]
@@ -34,35 +32,16 @@ const CODE: u64 = 1 << 63;
 
 const READ_ONLY: u64 = 1 << 62;
 
-/// The descriptions of all capabilities to addresses. There is room for `count` of them at once.
-pub(crate) fn cap_relocs(
-    alloc: Global,
-    sources: &Sources<'_>,
-    layout: &Layout<'_>,
-    wants: &[Want<'_>],
-    count: usize,
-) -> Result<Vec<CapReloc>, NoMemory>
-    requires { layout.now.rels ≡ sources.now.rels }
-    ensures { IfOk result (λ listed. listed.items ≡ cap_relocs_of layout.now wants.now) }
-{
-    let mut listed = Vec::with_capacity(alloc, count)?;
-    let mut guess = 0;
-    for want in wants {
-        if is_capability_to_address(want) {
-            listed.push(cap_reloc(sources, layout, want, &mut guess))?;
-        }
-    }
-    Ok(listed)
-}
-
-fn is_capability_to_address(want: &Want<'_>) -> bool
+/// Whether a capability is made when the file is loaded, from a description.
+pub(crate) fn is_capability_to_address(want: &Want<'_>) -> bool
     ensures { result ≡ is_described want.now.kind want.now.target }
 {
     want.kind == CAPABILITY && is_address(want.target)
 }
 
+/// The description of a capability. The guess is the piece that was found last.
 #[tactic(auto, unfolding(crate::specs::Lists::cap_reloc_of))]
-fn cap_reloc(
+pub(crate) fn cap_reloc(
     sources: &Sources<'_>,
     layout: &Layout<'_>,
     want: &Want<'_>,

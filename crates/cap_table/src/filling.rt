@@ -6,16 +6,15 @@ ghost use Rattle.cap_table.specs.Planned.{IsPlanOf};
 ghost use Rattle.cap_table.specs.Lists.{filled, AreListsOf};
 ghost use Rattle.cap_table.specs.Facts.{ArePlanned};
 
-use crate::describing::cap_relocs;
 use crate::dynamics::dynamics;
+use crate::entering::{Entered, all_entered};
 use crate::names::all_names;
 use crate::numbers::SymbolNumbers;
 use crate::planned::Plan;
 use crate::records::{DynEntry, DynSymbol};
-use crate::relocating::relas;
 use crate::sources::Sources;
 use crate::symbols::symbols;
-use crate::wants::{SLOT_SIZE, all_wants};
+use crate::wants::SLOT_SIZE;
 use cap_base::NoMemory;
 use cap_elf::{CapReloc, DynReloc};
 use cap_layout::Layout;
@@ -80,7 +79,7 @@ pub fn fill<'a>(
 }
 
 /// Fills the lists of a plan that fits the layout.
-#[tactic(auto, unfolding(crate::specs::Lists::filled))]
+#[tactic(auto, unfolding(crate::specs::Lists::filled, crate::specs::Entered::entered))]
 fn fill_planned<'a>(
     alloc: Global,
     plan: &'a Plan,
@@ -91,21 +90,13 @@ fn fill_planned<'a>(
     ensures { IfOk result (λ lists. lists ≡ filled sources.now plan.now layout.now) }
 {
     let parts = layout.parts();
-    let sizes = plan.sizes();
-    let wants = all_wants(alloc, plan, sources, layout)?;
     let numbers = SymbolNumbers::new(alloc, plan.symbols(), sources.table().len())?;
+    let Entered { cap_relocs, relas } = all_entered(alloc, &numbers, plan, sources, layout)?;
     let (names, offsets, own) = all_names(alloc, plan, sources.table())?;
     Ok(CapTable {
         plan,
-        cap_relocs: cap_relocs(alloc, sources, layout, &wants, sizes.cap_relocs as usize)?,
-        relas: relas(
-            alloc,
-            &numbers,
-            sources,
-            layout,
-            &wants,
-            sizes.relas as usize,
-        )?,
+        cap_relocs,
+        relas,
         symbols: symbols(alloc, sources, layout, plan.symbols())?,
         offsets,
         dynamics: dynamics(alloc, plan, &own, &parts)?,

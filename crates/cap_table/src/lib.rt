@@ -6,6 +6,7 @@ mod bodies;
 mod checks;
 mod describing;
 mod dynamics;
+mod entering;
 mod filling;
 mod gathering;
 mod kinds;

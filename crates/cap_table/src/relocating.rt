@@ -1,54 +1,31 @@
 //! The relocations of the linked file (DT_RELA).
 
-ghost use Rattle.std.specs.Prelude.{◌≡◌, ◌<◌, IfOk, unwrap_or};
+ghost use Rattle.std.specs.Prelude.{◌≡◌, unwrap_or};
 ghost use Rattle.std.specs.Int.{cast_signed, w64};
 ghost use Rattle.cap_layout.specs.Points.{point_of};
 ghost use Rattle.cap_table.specs.Planned.{is_relocated};
-ghost use Rattle.cap_table.specs.Lists.{dyn_reloc_of, relas_of};
+ghost use Rattle.cap_table.specs.Lists.{dyn_reloc_of};
 
 use crate::meaning::{is_address, is_dynamic, point};
 use crate::numbers::SymbolNumbers;
 use crate::sources::Sources;
 use crate::wants::{WORD, Want};
-use cap_base::NoMemory;
 use cap_elf::DynReloc;
 use cap_layout::Layout;
-use std::alloc::Global;
 
 /// R_RISCV_RELATIVE: the addend, counted from where the file is loaded.
 const RELATIVE: u32 = 3;
 
-/// The relocations of what is left to load, and of addresses as numbers. There is room for `count` of them at once.
-pub(crate) fn relas(
-    alloc: Global,
-    numbers: &SymbolNumbers<'_>,
-    sources: &Sources<'_>,
-    layout: &Layout<'_>,
-    wants: &[Want<'_>],
-    count: usize,
-) -> Result<Vec<DynReloc>, NoMemory>
-    requires { layout.now.rels ≡ sources.now.rels }
-    ensures { IfOk result (λ listed. listed.items ≡ relas_of numbers.now layout.now wants.now) }
-{
-    let mut listed = Vec::with_capacity(alloc, count)?;
-    let mut guess = 0;
-    for want in wants {
-        if is_left(want) {
-            listed.push(dyn_reloc(numbers, sources, layout, want, &mut guess))?;
-        }
-    }
-    Ok(listed)
-}
-
 /// Whether a relocation is left to load.
-fn is_left(want: &Want<'_>) -> bool
+pub(crate) fn is_left(want: &Want<'_>) -> bool
     ensures { result ≡ is_relocated want.now.kind want.now.target }
 {
     is_dynamic(want.target) || (want.kind == WORD && is_address(want.target))
 }
 
+/// The relocation of a field. The guess is the piece that was found last.
 #[tactic(auto, unfolding(crate::specs::Lists::dyn_reloc_of))]
-fn dyn_reloc(
+pub(crate) fn dyn_reloc(
     numbers: &SymbolNumbers<'_>,
     sources: &Sources<'_>,
     layout: &Layout<'_>,

@@ -1,21 +1,17 @@
 //! The fields of the linked file that want values: the slots of the capability table, and the relocated fields.
 
-ghost use Rattle.std.specs.Prelude.{◌≡◌, ◌++◌, ◌+◌, ◌*◌, ◌^◌, ◌<◌, ◌≤◌, [], ◌∷◌, map, filter, length, All, IfOk, OnOk, unwrap_or};
+ghost use Rattle.std.specs.Prelude.{◌≡◌, ◌+◌, ◌*◌, ◌^◌, ◌<◌, ◌≤◌, length, unwrap_or};
 ghost use Rattle.cap_elf.specs.RelObject.{file_of};
 ghost use Rattle.cap_table.specs.Kinds.{is_slot};
 ghost use Rattle.cap_table.specs.Checks.{reloc_of};
-ghost use Rattle.cap_table.specs.Planned.{is_field};
-ghost use Rattle.cap_table.specs.Lists.{wants, slot_wants, field_want, field_wants};
-ghost use Rattle.cap_table.specs.Facts.{IsStepOf, ArePlanned};
+ghost use Rattle.cap_table.specs.Lists.{slot_want as slot_want_of, field_want as field_want_of};
+ghost use Rattle.cap_table.specs.Facts.{IsStepOf};
 ghost use Rattle.cap_layout.specs.Points.{place_address};
 
-use crate::planned::Plan;
 use crate::sources::Sources;
 use crate::target::{Step, Target};
-use cap_base::NoMemory;
 use cap_elf::Reloc;
 use cap_layout::Layout;
-use std::alloc::Global;
 use std::marker::Model;
 
 /// R_RISCV_64: an address of eight bytes.
@@ -44,79 +40,38 @@ impl<'a> Model for Want<'a> {
     ghost view = { λ w. record { kind = w.kind; address = w.address; target = w.target.now; addend = w.addend } };
 }
 
-/// Each slot in order, and then each field in order of the walk.
-pub(crate) fn all_wants<'a>(
-    alloc: Global,
-    plan: &'a Plan,
-    sources: &'a Sources<'_>,
-    layout: &Layout<'_>,
-) -> Result<Vec<Want<'a>>, NoMemory>
-    requires { ArePlanned sources.now layout.now plan.now }
-    ensures { IfOk result (λ ws. ws.items ≡ wants sources.now plan.now layout.now) }
+/// The slot of this number.
+pub(crate) fn slot_want<'a>(layout: &Layout<'_>, k: usize, target: &'a Target) -> Want<'a>
+    requires { layout.now.parts.slots_at + 16 * k ≤ 2 ^ 26 }
+    ensures { result ≡ slot_want_of layout.now (k, target.now) }
 {
-    let mut wants = Vec::with_capacity(alloc, plan.slots().len() + plan.steps().len())?;
-    push_slots(&mut wants, plan, layout)?;
-    push_fields(&mut wants, plan, sources, layout)?;
-    Ok(wants)
-}
-
-/// Appends each slot.
-fn push_slots<'a>(
-    wants: &mut Vec<Want<'a>>,
-    plan: &'a Plan,
-    layout: &Layout<'_>,
-) -> Result<(), NoMemory>
-    requires { layout.now.parts.slots_at + 16 * length plan.now.slots ≤ 2 ^ 26 }
-    ensures { OnOk result (wants.new.items ≡ wants.old.items ++ slot_wants plan.now layout.now) }
-{
-    let slots_at = layout.parts().slots_at;
-    for (k, target) in plan.slots().iter().enumerate() {
-        wants.push(Want {
-            kind: CAPABILITY,
-            address: slots_at + SLOT_SIZE * k as u64,
-            target,
-            addend: 0,
-        })?;
+    Want {
+        kind: CAPABILITY,
+        address: layout.parts().slots_at + SLOT_SIZE * k as u64,
+        target,
+        addend: 0,
     }
-    Ok(())
 }
 
-/// Appends each relocated field.
-fn push_fields<'a>(
-    wants: &mut Vec<Want<'a>>,
-    plan: &Plan,
-    sources: &'a Sources<'_>,
-    layout: &Layout<'_>,
-) -> Result<(), NoMemory>
-    requires { All (IsStepOf sources.now layout.now.pieces.all) plan.now.steps }
-    ensures { OnOk result (wants.new.items ≡ wants.old.items ++ field_wants sources.now plan.now layout.now) }
-{
-    for step in plan.steps() {
-        push_field(wants, sources, layout, step)?;
-    }
-    Ok(())
-}
-
-/// Appends the field of a step, where it is relocated when the file is loaded, or holds a fixed value.
-fn push_field<'a>(
-    wants: &mut Vec<Want<'a>>,
+/// The field of a step's relocation.
+pub(crate) fn field_want<'a>(
     sources: &'a Sources<'_>,
     layout: &Layout<'_>,
     step: &Step,
-) -> Result<(), NoMemory>
-    requires { IsStepOf sources.now layout.now.pieces.all step.now }
-    ensures { OnOk result (wants.new.items ≡ wants.old.items ++ map (field_want sources.now layout.now) (filter (is_field sources.now) (step.now ∷ []))) }
+    reloc: &Reloc,
+) -> Want<'a>
+    requires step { IsStepOf sources.now layout.now.pieces.all step.now }
+    requires reloc { reloc.now ≡ reloc_of sources.now.rels step.now }
+    requires file { step.now.file < length sources.now.rels }
+    requires symbol { reloc.now.symbol < length (file_of sources.now.rels step.now.file).symbols }
+    ensures { result ≡ field_want_of sources.now layout.now step.now }
 {
-    let reloc = reloc_at(sources, layout, step);
-    if is_field_kind(reloc.kind) {
-        wants.push(Want {
-            kind: reloc.kind,
-            address: address_in(layout, step, &reloc),
-            target: sources.target_ref(step.file, reloc.symbol),
-            addend: reloc.addend,
-        })?;
+    Want {
+        kind: reloc.kind,
+        address: address_in(layout, step, reloc),
+        target: sources.target_ref(step.file, reloc.symbol),
+        addend: reloc.addend,
     }
-    Ok(())
 }
 
 /// The address of the field of a step's relocation.

@@ -1,9 +1,0 @@
-use Rattle.std.proofs.Common.{◌≡◌, ◌++◌, drop, map}
-use Rattle.std.specs.List.{enumerate_from}
-use Rattle.cap_table.specs.Lists.{slot_want, slot_wants}
-use Rattle.cap_table.proofs.wants.push_slots.Given as goal
-
-abbrev pub invariant-loop-k : goal.invariant-loop-k
-invariant-loop-k l =
-    l.wants.items ++ map (slot_want l.layout) (enumerate_from l.k (drop l.k l.target-items))
-    ≡ l.fn.wants.items ++ slot_wants l.plan l.layout
