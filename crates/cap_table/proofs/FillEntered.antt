@@ -1,5 +1,5 @@
 -- Entering fields one after the other.
-use Rattle.std.proofs.Common.{◌≡◌, ℕ, ◌+◌, ◌<◌, ◌≤◌, Bool, List, [], ◌∷◌, ◌++◌, length, get_or, drop, map, filter, refl, sym, ap, ◌∙◌}
+use Rattle.std.proofs.Common.{◌≡◌, ℕ, ◌+◌, ◌<◌, ◌≤◌, Bool, List, [], ◌∷◌, ◌++◌, length, get_or, drop, map, filter, sym, ap, ◌∙◌}
 use Rattle.std.specs.List.{enumerate_from}
 use Rattle.std.proofs.lemmas.List.{append_assoc, append-nil, map-append, drop_more, drop_all}
 use Rattle.std.proofs.lemmas.List.Elements.{filter-append}
@@ -9,7 +9,7 @@ use Rattle.cap_table.specs.declared.target.Step.{Step}
 use Rattle.cap_table.specs.declared.target.Target.{Target}
 use Rattle.cap_table.specs.Targets.{Named}
 use Rattle.cap_table.specs.Lists.{Want, slot_want, field_want, cap_reloc_of, cap_relocs_of, dyn_reloc_of, relas_of}
-use Rattle.cap_table.specs.Entered.{EnteredValue, none_entered, entered}
+use Rattle.cap_table.specs.Entered.{EnteredValue, entered}
 
 cap_relocs_append : (laid : Laid) (ones others : List Want) → cap_relocs_of laid (ones ++ others) ≡ cap_relocs_of laid ones ++ cap_relocs_of laid others
 cap_relocs_append laid ones others =

@@ -19,11 +19,14 @@ use cap_layout::Layout;
 use std::alloc::Global;
 use std::marker::Model;
 
-/// The descriptions of capabilities, and the relocations.
+/// The descriptions of capabilities, and the relocations. Each list has the piece that was found last for it: the next is
+/// sought there first, and nothing rests on it.
 #[derive(Drop)]
 pub(crate) struct Entered {
     pub(crate) cap_relocs: Vec<CapReloc>,
     pub(crate) relas: Vec<DynReloc>,
+    described_piece: u32,
+    relocated_piece: u32,
 }
 
 impl Model for Entered {
@@ -44,6 +47,8 @@ impl Entered {
         Ok(Entered {
             cap_relocs: Vec::with_capacity(alloc, sizes.cap_relocs as usize)?,
             relas: Vec::with_capacity(alloc, sizes.relas as usize)?,
+            described_piece: 0,
+            relocated_piece: 0,
         })
     }
 
@@ -55,18 +60,19 @@ impl Entered {
         sources: &Sources<'_>,
         layout: &Layout<'_>,
         want: &Want<'_>,
-        guess: &mut u32,
     ) -> Result<(), NoMemory>
         requires { layout.now.rels ≡ sources.now.rels }
         ensures { OnOk result (self.new ≡ entered numbers.now layout.now self.old (want.now ∷ [])) }
     {
         if is_capability_to_address(want) {
-            self.cap_relocs
-                .push(cap_reloc(sources, layout, want, guess))?;
+            let guess = &mut self.described_piece;
+            let entry = cap_reloc(sources, layout, want, guess);
+            self.cap_relocs.push(entry)?;
         }
         if is_left(want) {
-            self.relas
-                .push(dyn_reloc(numbers, sources, layout, want, guess))?;
+            let guess = &mut self.relocated_piece;
+            let entry = dyn_reloc(numbers, sources, layout, want, guess);
+            self.relas.push(entry)?;
         }
         Ok(())
     }
@@ -102,10 +108,9 @@ fn enter_slots(
     requires low { layout.now.parts.slots_at + 16 * length plan.now.slots ≤ 2 ^ 26 }
     ensures { OnOk result (lists.new ≡ entered numbers.now layout.now lists.old (slot_wants plan.now layout.now)) }
 {
-    let mut guess = 0;
     for (k, target) in plan.slots().iter().enumerate() {
         let want = slot_want(layout, k, target);
-        lists.enter(numbers, sources, layout, &want, &mut guess)?;
+        lists.enter(numbers, sources, layout, &want)?;
     }
     Ok(())
 }
@@ -122,9 +127,8 @@ fn enter_fields(
     requires steps { All (IsStepOf sources.now layout.now.pieces.all) plan.now.steps }
     ensures { OnOk result (lists.new ≡ entered numbers.now layout.now lists.old (field_wants sources.now plan.now layout.now)) }
 {
-    let mut guess = 0;
     for step in plan.steps() {
-        enter_field(lists, numbers, sources, layout, step, &mut guess)?;
+        enter_field(lists, numbers, sources, layout, step)?;
     }
     Ok(())
 }
@@ -137,7 +141,6 @@ fn enter_field(
     sources: &Sources<'_>,
     layout: &Layout<'_>,
     step: &Step,
-    guess: &mut u32,
 ) -> Result<(), NoMemory>
     requires rels { layout.now.rels ≡ sources.now.rels }
     requires step { IsStepOf sources.now layout.now.pieces.all step.now }
@@ -146,7 +149,7 @@ fn enter_field(
     let reloc = reloc_at(sources, layout, step);
     if is_field_kind(reloc.kind) {
         let want = field_want(sources, layout, step, &reloc);
-        lists.enter(numbers, sources, layout, &want, guess)?;
+        lists.enter(numbers, sources, layout, &want)?;
     }
     Ok(())
 }

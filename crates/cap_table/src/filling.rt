@@ -91,7 +91,11 @@ fn fill_planned<'a>(
 {
     let parts = layout.parts();
     let numbers = SymbolNumbers::new(alloc, plan.symbols(), sources.table().len())?;
-    let Entered { cap_relocs, relas } = all_entered(alloc, &numbers, plan, sources, layout)?;
+    let Entered {
+        cap_relocs,
+        relas,
+        ..
+    } = all_entered(alloc, &numbers, plan, sources, layout)?;
     let (names, offsets, own) = all_names(alloc, plan, sources.table())?;
     Ok(CapTable {
         plan,
