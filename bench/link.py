@@ -6,7 +6,8 @@
 64 objects, and 256, that clang makes for 64-bit RISC-V, with 2^12 to 2^18 relocations in all: each object has as many
 exported words of data as relocations, and each relocation takes the address of a word of the next object. No compiler
 at hand sets the two flag bits of the pure-capability profile, so they are set in the headers. For each: the least wall
-time of N runs, and time and peak memory a relocation. A linker that isn't there, or knows no RISC-V, is left out."""
+time of N runs, and time and peak memory a relocation. The linkers take turns, so that what else the machine does falls
+on all alike. A linker that isn't there, or knows no RISC-V, is left out."""
 import argparse
 import shutil
 import subprocess
@@ -62,9 +63,12 @@ def main() -> None:
         with tempfile.TemporaryDirectory() as name:
             folder = Path(name)
             files = make(folder, objects, relocations)
-            for linker, command in linkers.items():
-                rounds = [run(command + files, folder / "log", folder) for _ in range(given.runs)]
-                seconds, memory = min(r[0] for r in rounds), max(r[1] for r in rounds)
+            rounds = {linker: [] for linker in linkers}
+            for _ in range(given.runs):
+                for linker, command in linkers.items():
+                    rounds[linker].append(run(command + files, folder / "log", folder))
+            for linker, taken in rounds.items():
+                seconds, memory = min(r[0] for r in taken), max(r[1] for r in taken)
                 print(objects, relocations, linker, f"{seconds:.3f}", round(seconds / relocations * 1e9),
                       round(memory / relocations), flush=True)
 
