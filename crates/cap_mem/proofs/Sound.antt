@@ -6,10 +6,10 @@ use Rattle.std.proofs.lemmas.Bool.Decides.{eqb_tells}
 use Rattle.cap_own.specs.Cap.{Cap}
 use Rattle.cap_mem.specs.Tagged.{TaggedWord, word_in}
 use Rattle.cap_mem.specs.IsMemory.{IsHeld, IsMemory}
-use Rattle.cap_mem.specs.Held.{words_of}
+use Rattle.cap_mem.specs.Held.{cap_in, words_of}
 use Rattle.cap_mem.specs.Chain.{has, NotIn, IsApart}
 use Rattle.cap_mem.specs.declared.memory.Memory.TheInside.{Inside}
-use Rattle.cap_mem.specs.MemoryFields.{memory_of, caps_of, notes_of, AreTables}
+use Rattle.cap_mem.specs.MemoryFields.{memory_of, owners_of, caps_of, notes_of, AreTables}
 use Rattle.cap_mem.proofs.Chains.{Yes, No}
 use Rattle.cap_mem.proofs.Granules.{In, Out, lt_tells, eq_yes, word, words_head}
 use Rattle.cap_mem.proofs.Entered.{OwnedBy}
@@ -82,12 +82,15 @@ held m i g low s =
       to = omega (arith, i.bytes_len, low);
       owner = i.owners_low g;
       bytes_are = ap (word_in m.bytes.items) place ∙ h.bytes_are;
+      decodes = ap (λ at. cap_in m.bytes.items at (owners_of m g)) place;
       root = h.root;
       granted = h.granted;
     }
 
 pub IsMemory-made : (m : Inside) → AreTables m → IsMemory (memory_of m)
 IsMemory-made m i = record {
+  aligned = i.aligned;
+  end = omega (arith, i.end, i.bytes_len);
   held = all_words (IsHeld (memory_of m)) m.base m.links.size (caps_of m) (notes_of m) m.links.chain (held m i);
   distinct = words_distinct m.base m.links.size (caps_of m) (notes_of m) m.links.chain i.apart;
   ascending = subst (λ (ws : List TaggedWord). AllPairs (λ v w. v.cap.owner ≤ w.cap.owner) ws)
