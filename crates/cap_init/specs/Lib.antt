@@ -1,0 +1,3 @@
+pub mod Post
+pub mod Calls
+pub mod Laws
