@@ -1,3 +1,4 @@
 pub mod Post
 pub mod Calls
+pub mod Walking
 pub mod Laws
