@@ -49,7 +49,7 @@ module _ (deps : List (List ℕ)) (from to : ℕ) where
 
   -- an object that is passed over
   finished-passed : (fs : List Frame) (f : Frame) (ended : List ℕ) (i : ℕ) → f.next < length (needs deps f.object) → i ≡ get_or (needs deps f.object) f.next 0 → is_passed from to (f.object ∷ climbed [] fs) ended i ≡ true
-    → finished deps from to [] (fs ++ f ∷ []) ended ≡ finished deps from to [] (fs ++ next_frame f ∷ []) ended
+      → finished deps from to [] (fs ++ f ∷ []) ended ≡ finished deps from to [] (fs ++ next_frame f ∷ []) ended
   finished-passed fs f ended i lt e p =
       finished-push fs f ended
       ∙ ap (finished deps from to [] fs) (left-more (climbed [] fs) f ended i lt e ∙ ap (left_of deps from to (climbed [] fs) (next_frame f)) (visit_passed deps from to (f.object ∷ climbed [] fs) ended i p))
@@ -61,7 +61,7 @@ module _ (deps : List (List ℕ)) (from to : ℕ) where
 
   -- an object that is begun
   finished-begun : (fs : List Frame) (f : Frame) (ended : List ℕ) (i : ℕ) → f.next < length (needs deps f.object) → i ≡ get_or (needs deps f.object) f.next 0 → is_passed from to (f.object ∷ climbed [] fs) ended i ≡ false
-    → finished deps from to [] (fs ++ f ∷ []) ended ≡ finished deps from to [] ((fs ++ next_frame f ∷ []) ++ first_frame i ∷ []) ended
+      → finished deps from to [] (fs ++ f ∷ []) ended ≡ finished deps from to [] ((fs ++ next_frame f ∷ []) ++ first_frame i ∷ []) ended
   finished-begun fs f ended i lt e p =
       finished-push fs f ended
       ∙ ap (finished deps from to [] fs) (left-more (climbed [] fs) f ended i lt e ∙ ap (left_of deps from to (climbed [] fs) (next_frame f)) (sym (left-first (f.object ∷ climbed [] fs) i ended p)))
@@ -88,13 +88,13 @@ module _ (deps : List (List ℕ)) (from to : ℕ) where
   -- the object at the end of the path is ended
   pub walk_ended : (begun : List Bool) (fs : List Frame) (f : Frame) (ended : List ℕ) → IsWalk deps from to begun (fs ++ f ∷ []) ended → length (needs deps f.object) ≤ f.next → IsWalk deps from to begun fs (ended ++ f.object ∷ [])
   walk_ended begun fs f ended w past = record {
-      long = w.long;
-      flags = λ k lt. w.flags k lt ∙ ap (λ path. has (from + k) path || has (from + k) ended) (climbed-push [] fs f)
-          ∙ moved (f.object == from + k) (has (from + k) (climbed [] fs)) (has (from + k) ended)
-          ∙ ap (λ b. has (from + k) (climbed [] fs) || b) (sym (has-append (from + k) ended (f.object ∷ [])));
-      inside = (All-pop (λ f. f.object < length deps) (fs ++ f ∷ []) fs (Some f) refl w.inside).0;
-      rest = sym (finished-end fs f ended past) ∙ w.rest;
-    }
+    long = w.long;
+    flags = λ k lt. w.flags k lt ∙ ap (λ path. has (from + k) path || has (from + k) ended) (climbed-push [] fs f)
+        ∙ moved (f.object == from + k) (has (from + k) (climbed [] fs)) (has (from + k) ended)
+        ∙ ap (λ b. has (from + k) (climbed [] fs) || b) (sym (has-append (from + k) ended (f.object ∷ [])));
+    inside = (All-pop (λ f. f.object < length deps) (fs ++ f ∷ []) fs (Some f) refl w.inside).0;
+    rest = sym (finished-end fs f ended past) ∙ w.rest;
+  }
     where
       moved : (o c e : Bool) → ((o || c) || e) ≡ (c || (e || (o || false)))
       moved true true e = refl
@@ -110,9 +110,9 @@ module _ (deps : List (List ℕ)) (from to : ℕ) where
         let p = member_parts from to i m in
         let place : from + (i - from) ≡ i = omega (arith, p.0) in
         let flag : slice_index_or begun (i - from) false ≡ (has i (f.object ∷ climbed [] fs) || has i ended) =
-            w.flags (i - from) (omega (arith, w.long, p.0, p.1))
-            ∙ ap (λ path. has (from + (i - from)) path || has (from + (i - from)) ended) (climbed-push [] fs f)
-            ∙ ap (λ j. has j (f.object ∷ climbed [] fs) || has j ended) place in
+        w.flags (i - from) (omega (arith, w.long, p.0, p.1))
+        ∙ ap (λ path. has (from + (i - from)) path || has (from + (i - from)) ended) (climbed-push [] fs f)
+        ∙ ap (λ j. has j (f.object ∷ climbed [] fs) || has j ended) place in
         ap (λ b. b || slice_index_or begun (i - from) false) (not_from_true _ m)
         ∙ flag
         ∙ sym (ap (λ b. b || has i (f.object ∷ climbed [] fs) || has i ended) (not_from_true _ m))
@@ -123,15 +123,15 @@ module _ (deps : List (List ℕ)) (from to : ℕ) where
 
   -- the next object that the one at the end of the path needs is visited
   pub walk_visited : (begun more : List Bool) (fs gs : List Frame) (f : Frame) (ended : List ℕ) (i : ℕ) → IsWalk deps from to begun (fs ++ f ∷ []) ended → f.next < length (needs deps f.object) → i ≡ get_or (needs deps f.object) f.next 0 → to ≤ length deps
-    → more ≡ cond (is_begun from to begun i) begun (set begun (i - from) true)
-    → gs ≡ cond (is_begun from to begun i) (fs ++ next_frame f ∷ []) ((fs ++ next_frame f ∷ []) ++ first_frame i ∷ [])
-    → IsWalk deps from to more gs ended
+      → more ≡ cond (is_begun from to begun i) begun (set begun (i - from) true)
+      → gs ≡ cond (is_begun from to begun i) (fs ++ next_frame f ∷ []) ((fs ++ next_frame f ∷ []) ++ first_frame i ∷ [])
+      → IsWalk deps from to more gs ended
   walk_visited begun more fs gs f ended i w lt e le flags path =
       let same = begun_is_passed begun fs f ended i w in
       let front = All-pop (λ f. f.object < length deps) (fs ++ f ∷ []) fs (Some f) refl w.inside in
       let inside : All (λ f. f.object < length deps) (fs ++ next_frame f ∷ []) = All-push (λ f. f.object < length deps) fs (next_frame f) front.0 front.1 in
       let flags_were : (k : ℕ) → k < length begun → slice_index_or begun k false ≡ (has (from + k) (f.object ∷ climbed [] fs) || has (from + k) ended) =
-          λ k lt. w.flags k lt ∙ ap (λ path. has (from + k) path || has (from + k) ended) (climbed-push [] fs f) in
+      λ k lt. w.flags k lt ∙ ap (λ path. has (from + k) path || has (from + k) ended) (climbed-push [] fs f) in
       elim (cases_Bool (is_begun from to begun i)) [
         | inl p ↦
             let more_is : more ≡ begun = flags ∙ ap (λ b. cond b begun (set begun (i - from) true)) p in
@@ -150,20 +150,20 @@ module _ (deps : List (List ℕ)) (from to : ℕ) where
             let gs_is : gs ≡ (fs ++ next_frame f ∷ []) ++ first_frame i ∷ [] = path ∙ ap (λ b. cond b (fs ++ next_frame f ∷ []) ((fs ++ next_frame f ∷ []) ++ first_frame i ∷ [])) p in
             let climbed_is : climbed [] ((fs ++ next_frame f ∷ []) ++ first_frame i ∷ []) ≡ i ∷ f.object ∷ climbed [] fs = climbed-push [] (fs ++ next_frame f ∷ []) (first_frame i) ∙ ap (λ p. i ∷ p) (climbed-push [] fs (next_frame f)) in
             let flags_are : (k : ℕ) → k < length (set begun (i - from) true) → slice_index_or (set begun (i - from) true) k false ≡ (has (from + k) (i ∷ f.object ∷ climbed [] fs) || has (from + k) ended) =
-                λ k lt. elim (cases_eq k (i - from)) [
-                  | inl here ↦
-                      let place : i ≡ from + k = omega (arith, here, m.0) in
-                      let on : has (from + k) (i ∷ f.object ∷ climbed [] fs) ≡ true = or_left _ _ (eq-eqb i (from + k) place) in
-                      ap (λ n. slice_index_or (set begun (i - from) true) n false) here
-                      ∙ get_or-set_same begun (i - from) true false (omega (arith, w.long, m.0, m.1))
-                      ∙ sym (or_left (has (from + k) (i ∷ f.object ∷ climbed [] fs)) (has (from + k) ended) on)
-                  | inr there ↦
-                      let other : (i == from + k) ≡ false = ne_eqb i (from + k) (λ same. there (omega (arith, same))) in
-                      let short : k < length begun = omega (arith, lt, length-set begun (i - from) true) in
-                      get_or-set_other begun (i - from) k true false there
-                      ∙ flags_were k short
-                      ∙ sym (ap (λ b. (b || has (from + k) (f.object ∷ climbed [] fs)) || has (from + k) ended) other)
-                ] in
+            λ k lt. elim (cases_eq k (i - from)) [
+              | inl here ↦
+                  let place : i ≡ from + k = omega (arith, here, m.0) in
+                  let on : has (from + k) (i ∷ f.object ∷ climbed [] fs) ≡ true = or_left _ _ (eq-eqb i (from + k) place) in
+                  ap (λ n. slice_index_or (set begun (i - from) true) n false) here
+                  ∙ get_or-set_same begun (i - from) true false (omega (arith, w.long, m.0, m.1))
+                  ∙ sym (or_left (has (from + k) (i ∷ f.object ∷ climbed [] fs)) (has (from + k) ended) on)
+              | inr there ↦
+                  let other : (i == from + k) ≡ false = ne_eqb i (from + k) (λ same. there (omega (arith, same))) in
+                  let short : k < length begun = omega (arith, lt, length-set begun (i - from) true) in
+                  get_or-set_other begun (i - from) k true false there
+                  ∙ flags_were k short
+                  ∙ sym (ap (λ b. (b || has (from + k) (f.object ∷ climbed [] fs)) || has (from + k) ended) other)
+            ] in
             rw (more_is, gs_is) (record {
               long = ap (λ n. from + n) (length-set begun (i - from) true) ∙ w.long;
               flags = λ k lt. flags_are k lt ∙ ap (λ path. has (from + k) path || has (from + k) ended) (sym climbed_is);
@@ -174,9 +174,9 @@ module _ (deps : List (List ℕ)) (from to : ℕ) where
 
   -- the walk begins
   pub walk_begun : (begun : List Bool) (path : List Frame) → from < to → to ≤ length deps
-    → begun ≡ cond (is_begun from to (replicate (to - from) false) from) (replicate (to - from) false) (set (replicate (to - from) false) (from - from) true)
-    → path ≡ cond (is_begun from to (replicate (to - from) false) from) [] (first_frame from ∷ [])
-    → IsWalk deps from to begun path []
+      → begun ≡ cond (is_begun from to (replicate (to - from) false) from) (replicate (to - from) false) (set (replicate (to - from) false) (from - from) true)
+      → path ≡ cond (is_begun from to (replicate (to - from) false) from) [] (first_frame from ∷ [])
+      → IsWalk deps from to begun path []
   walk_begun begun path some le flags frames =
       let none : List Bool = replicate (to - from) false in
       let in_group : is_member from to from ≡ true = and_from _ _ (le-leb from from (omega arith)) (lt-ltb from to some) in
@@ -222,9 +222,9 @@ pub steps_ended : (deps : List (List ℕ)) (from : ℕ) (begun : List Bool) (fs 
 steps_ended deps from begun fs f = omega (arith, path_steps-push deps fs f)
 
 pub steps_visited : (deps : List (List ℕ)) (from to : ℕ) (begun more : List Bool) (fs gs : List Frame) (f : Frame) (i : ℕ) → from + length begun ≡ to → f.next < length (needs deps f.object)
-  → more ≡ cond (is_begun from to begun i) begun (set begun (i - from) true)
-  → gs ≡ cond (is_begun from to begun i) (fs ++ next_frame f ∷ []) ((fs ++ next_frame f ∷ []) ++ first_frame i ∷ [])
-  → steps_left deps from more gs < steps_left deps from begun (fs ++ f ∷ [])
+    → more ≡ cond (is_begun from to begun i) begun (set begun (i - from) true)
+    → gs ≡ cond (is_begun from to begun i) (fs ++ next_frame f ∷ []) ((fs ++ next_frame f ∷ []) ++ first_frame i ∷ [])
+    → steps_left deps from more gs < steps_left deps from begun (fs ++ f ∷ [])
 steps_visited deps from to begun more fs gs f i long lt flags path =
     let old = path_steps-push deps fs f in
     let next = path_steps-push deps fs (next_frame f) in

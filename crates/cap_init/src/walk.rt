@@ -31,10 +31,10 @@ struct Frame {
 }
 
 /// Begins an object, at the end of the path, unless the walk passes over it.
-fn begin(i: u32, group: Group, begun: &mut [bool], path: &mut Vec<Frame>) -> Result<(), NoMemory>
-    requires { group.from + length begun.old ≡ group.to }
-    ensures begun { OnOk result (begun.new ≡ (if is_begun group.from group.to begun.old i then begun.old else slice_set begun.old (i - group.from) true)) }
-    ensures path { OnOk result (path.new.items ≡ (if is_begun group.from group.to begun.old i then path.old.items else path.old.items ++ record { object = i; next = 0 } ∷ [])) }
+fn begin(i: u32, group: Group, begun: &mut Vec<bool>, path: &mut Vec<Frame>) -> Result<(), NoMemory>
+    requires { group.from + length begun.old.items ≡ group.to }
+    ensures begun { OnOk result (begun.new.items ≡ (if is_begun group.from group.to begun.old.items i then begun.old.items else slice_set begun.old.items (i - group.from) true)) }
+    ensures path { OnOk result (path.new.items ≡ (if is_begun group.from group.to begun.old.items i then path.old.items else path.old.items ++ record { object = i; next = 0 } ∷ [])) }
 {
     if !group.has(i) || begun[(i - group.from) as usize] {
         return Ok(());
@@ -49,14 +49,14 @@ fn step(
     deps: &Deps,
     group: Group,
     frame: Frame,
-    begun: &mut [bool],
+    begun: &mut Vec<bool>,
     path: &mut Vec<Frame>,
     ended: &mut Vec<u32>,
 ) -> Result<(), NoMemory>
-    requires walk { IsWalk deps.now group.from group.to begun.old (path.old.items ++ frame ∷ []) ended.old.items }
+    requires walk { IsWalk deps.now group.from group.to begun.old.items (path.old.items ++ frame ∷ []) ended.old.items }
     requires inside { group.to ≤ length deps.now }
-    ensures walk { OnOk result (IsWalk deps.now group.from group.to begun.new path.new.items ended.new.items) }
-    ensures steps { OnOk result (steps_left deps.now group.from begun.new path.new.items < steps_left deps.now group.from begun.old (path.old.items ++ frame ∷ [])) }
+    ensures walk { OnOk result (IsWalk deps.now group.from group.to begun.new.items path.new.items ended.new.items) }
+    ensures steps { OnOk result (steps_left deps.now group.from begun.new.items path.new.items < steps_left deps.now group.from begun.old.items (path.old.items ++ frame ∷ [])) }
 {
     match deps.of(frame.object).get(frame.next) {
         None => ended.push(frame.object)?,

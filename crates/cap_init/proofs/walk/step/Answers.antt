@@ -11,13 +11,13 @@ returns-in_ok-push-in-None-clause-walk c =
     rw c.in_ok-push-in-None.ensures.items (walk_ended _ _ _ _ c.args.path.now.items c.args.frame _ c.requires.walk past)
 
 pub returns-in_ok-push-in-None-clause-steps : goal.returns-in_ok-push-in-None-clause-steps
-returns-in_ok-push-in-None-clause-steps c = steps_ended c.args.deps.now c.args.group.from c.args.begun.now c.args.path.now.items c.args.frame
+returns-in_ok-push-in-None-clause-steps c = steps_ended c.args.deps.now c.args.group.from c.args.begun.now.items c.args.path.now.items c.args.frame
 
 abbrev gone_on : Frame → Frame
 gone_on f = record { object = f.object; next = f.next + 1 }
 
 abbrev path_after : goal.In_ok-begin-in-Some → List Frame → List Frame
-path_after c path = cond (is_begun c.args.group.from c.args.group.to c.args.begun.now c.in-Some.i.now) path (path ++ record { object = c.in-Some.i.now; next = 0 } ∷ [])
+path_after c path = cond (is_begun c.args.group.from c.args.group.to c.args.begun.now.items c.in-Some.i.now) path (path ++ record { object = c.in-Some.i.now; next = 0 } ∷ [])
 
 pub returns-in_ok-begin-in-Some-clause-walk : goal.returns-in_ok-begin-in-Some-clause-walk
 returns-in_ok-begin-in-Some-clause-walk c =
@@ -25,11 +25,11 @@ returns-in_ok-begin-in-Some-clause-walk c =
     let lt : c.args.frame.next < length (needs c.args.deps.now c.args.frame.object) = subst (λ (js : List ℕ). c.args.frame.next < length js) c.of.ensures found.0 in
     let is : c.in-Some.i.now ≡ get_or (needs c.args.deps.now c.args.frame.object) c.args.frame.next 0 = found.1 0 ∙ ap (λ js. get_or js c.args.frame.next 0) c.of.ensures in
     let path : c.begin.new.path.items ≡ path_after c (c.args.path.now.items ++ gone_on c.args.frame ∷ []) = c.in_ok-begin-in-Some.ensures.path ∙ ap (path_after c) c.in_ok-push-in-Some.ensures.items in
-    walk_visited c.args.deps.now c.args.group.from c.args.group.to c.args.begun.now c.begin.new.begun c.args.path.now.items c.begin.new.path.items c.args.frame c.args.ended.now.items c.in-Some.i.now c.requires.walk lt is c.requires.inside c.in_ok-begin-in-Some.ensures.begun path
+    walk_visited c.args.deps.now c.args.group.from c.args.group.to c.args.begun.now.items c.begin.new.begun.items c.args.path.now.items c.begin.new.path.items c.args.frame c.args.ended.now.items c.in-Some.i.now c.requires.walk lt is c.requires.inside c.in_ok-begin-in-Some.ensures.begun path
 
 pub returns-in_ok-begin-in-Some-clause-steps : goal.returns-in_ok-begin-in-Some-clause-steps
 returns-in_ok-begin-in-Some-clause-steps c =
     let found = c.in-Some.ensures.lookup.3 in
     let lt : c.args.frame.next < length (needs c.args.deps.now c.args.frame.object) = subst (λ (js : List ℕ). c.args.frame.next < length js) c.of.ensures found.0 in
     let path : c.begin.new.path.items ≡ path_after c (c.args.path.now.items ++ gone_on c.args.frame ∷ []) = c.in_ok-begin-in-Some.ensures.path ∙ ap (path_after c) c.in_ok-push-in-Some.ensures.items in
-    steps_visited c.args.deps.now c.args.group.from c.args.group.to c.args.begun.now c.begin.new.begun c.args.path.now.items c.begin.new.path.items c.args.frame c.in-Some.i.now c.requires.walk.long lt c.in_ok-begin-in-Some.ensures.begun path
+    steps_visited c.args.deps.now c.args.group.from c.args.group.to c.args.begun.now.items c.begin.new.begun.items c.args.path.now.items c.begin.new.path.items c.args.frame c.in-Some.i.now c.requires.walk.long lt c.in_ok-begin-in-Some.ensures.begun path
