@@ -9,11 +9,11 @@ use Rattle.cap_init.specs.Post.{is_member, is_passed, needs, visited}
 use Rattle.cap_init.specs.Walking.{visit}
 
 -- how many of these numbers don't stand on a path
-abbrev others : List ℕ → List ℕ → ℕ
+abbrev pub others : List ℕ → List ℕ → ℕ
 others path [] = 0
 others path (k ∷ ks) = cond (has k path) 0 1 + others path ks
 
-others-le : (path ks : List ℕ) → others path ks ≤ length ks
+pub others-le : (path ks : List ℕ) → others path ks ≤ length ks
 others-le path [] = omega arith
 others-le path (k ∷ ks) =
     let rest = others-le path ks in
@@ -36,7 +36,7 @@ others-mono i path (k ∷ ks) =
     ]
 
 -- and fewer, where it is longer by one of them
-others-less : (i : ℕ) (path ks : List ℕ) → has i ks ≡ true → has i path ≡ false → others (i ∷ path) ks < others path ks
+pub others-less : (i : ℕ) (path ks : List ℕ) → has i ks ≡ true → has i path ≡ false → others (i ∷ path) ks < others path ks
 others-less i path [] h new = absurd (both_ways false refl h)
 others-less i path (k ∷ ks) h new = elim (or_cases (k == i) (has i ks) h) [
   | inl same ↦
@@ -91,13 +91,13 @@ pub member_parts : (from to i : ℕ) → is_member from to i ≡ true → (from 
 member_parts from to i h = let p = and_parts (nat_le from i) (nat_lt i to) h in (leb-true from i p.0, ltb-true i to p.1)
 
 module _ (deps : List (List ℕ)) (from to : ℕ) where
-  abbrev members : List ℕ
+  abbrev pub members : List ℕ
   members = range_with_len from (to - from)
 
-  has-member : (i : ℕ) → is_member from to i ≡ true → has i members ≡ true
+  pub has-member : (i : ℕ) → is_member from to i ≡ true → has i members ≡ true
   has-member i h = let p = member_parts from to i h in has-range i from (to - from) p.0 (omega (arith, p.0, p.1))
 
-  begun_passed : (path ended : List ℕ) (i : ℕ) → others path members ≤ 0 → is_passed from to path ended i ≡ true
+  pub begun_passed : (path ended : List ℕ) (i : ℕ) → others path members ≤ 0 → is_passed from to path ended i ≡ true
   begun_passed path ended i none = elim (cases_Bool (is_member from to i)) [
     | inl m ↦
         let h : has i path ≡ true = others-none i path members none (has-member i m) in
@@ -107,7 +107,7 @@ module _ (deps : List (List ℕ)) (from to : ℕ) where
   ]
 
   -- what a visit gives, by whether the walk passes over the object
-  abbrev split : ℕ → List ℕ → List ℕ → ℕ → Bool → List ℕ
+  abbrev pub split : ℕ → List ℕ → List ℕ → ℕ → Bool → List ℕ
   split n path ended i b = elim b [
     | true ↦ ended
     | false ↦ fold (λ e j. visited n deps from to (i ∷ path) e j) ended (needs deps i) ++ i ∷ []

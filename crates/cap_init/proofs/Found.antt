@@ -1,8 +1,8 @@
 -- What is found at a granule, and whether it is a sentry.
-use Rattle.std.proofs.Common.{◌≡◌, ℕ, ◌+◌, ◌-◌, ◌*◌, Bool, true, false, cond, Option, Some, None, List, [], ◌∷◌, ◌++◌, All, refl, sym, ap, ◌∙◌, arith, subst}
+use Rattle.std.proofs.Common.{◌≡◌, inl, inr, ℕ, ◌+◌, ◌-◌, ◌*◌, Bool, true, false, cond, Option, Some, None, List, [], ◌∷◌, ◌++◌, All, refl, sym, ap, ◌∙◌, arith, subst}
 use Rattle.std.specs.Prelude.{nat_eq, find, is_some, map, flat_map}
 use Rattle.std.specs.List.{range_with_len}
-use Rattle.std.proofs.lemmas.Bool.{cases_Bool, eqb-true, true≢false, both_ways}
+use Rattle.std.proofs.lemmas.Bool.{cases_Bool, eqb-true, ne_eqb, true≢false}
 use Rattle.std.proofs.lemmas.List.Elements.{All-head, All-tail}
 use Rattle.cap_conc.specs.declared.word.Fields.{Fields}
 use Rattle.cap_conc.specs.declared.word.Word.{Word}
@@ -54,5 +54,5 @@ module _ (memory : TaggedMemory) (sound : IsMemory memory) (granule object : ℕ
   pub found_sentry : is_tagged memory granule ≡ true → nat_eq fields.otype 262142 ≡ true → found_call object (tagged_word memory granule) ≡ record { slot = granule; cursor = fields.cursor; object = object } ∷ []
   found_sentry tagged sentry = found_is (tagged_word memory granule) refl tagged ∙ ap called sentry
 
-  pub found_other : is_tagged memory granule ≡ true → nat_eq fields.otype 262142 ≡ false → found_call object (tagged_word memory granule) ≡ []
-  found_other tagged other = found_is (tagged_word memory granule) refl tagged ∙ ap called other
+  pub found_other : is_tagged memory granule ≡ true → (fields.otype ≡ 262142 → ⊥) → found_call object (tagged_word memory granule) ≡ []
+  found_other tagged other = found_is (tagged_word memory granule) refl tagged ∙ ap called (ne_eqb fields.otype 262142 other)

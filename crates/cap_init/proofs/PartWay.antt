@@ -4,15 +4,12 @@ use Rattle.std.specs.Prelude.{◌==◌, fold, slice_index_or}
 use Rattle.std.proofs.lemmas.Bool.{and_from, cases_Bool, cases_eq, eq-eqb, ne_eqb, le-leb, lt-ltb, or_left, or_from, or_parts, not-false, not_from_true, not_from_false}
 use Rattle.std.proofs.lemmas.List.{drop_all, drop_more, get_or-replicate, length-replicate}
 use Rattle.std.proofs.lemmas.List.Elements.{All-nil, All-cons, All-pop, All-push}
-use Rattle.std.proofs.lemmas.List.Folds.{list_any-append}
 use Rattle.cap_chain.specs.Adopted.{has}
+use Rattle.cap_chain.proofs.SoundLemmas.{has-append}
 use Rattle.cap_init.specs.declared.walk.Frame.{Frame}
 use Rattle.cap_init.specs.Post.{is_member, is_passed, needs, post_of, visited}
 use Rattle.cap_init.specs.Walking.{climbed, visit, left_of, finished, IsWalk, is_begun, unbegun_steps, path_steps, steps_left}
 use Rattle.cap_init.proofs.Depth.{member_parts, new_parts, visit_passed, visit_new}
-
-has-append : (j : ℕ) (xs ys : List ℕ) → has j (xs ++ ys) ≡ (has j xs || has j ys)
-has-append j xs ys = list_any-append (λ y. y == j) xs ys
 
 climbed-push : (path : List ℕ) (fs : List Frame) (f : Frame) → climbed path (fs ++ f ∷ []) ≡ f.object ∷ climbed path fs
 climbed-push path [] f = refl

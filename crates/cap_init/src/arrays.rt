@@ -24,14 +24,18 @@ fn push_call(calls: &mut Vec<Call>, memory: &Memory, slot: u64, object: u32) -> 
     ensures { OnOk result (calls.new.items ≡ calls.old.items ++ found_call object (tagged_word memory.now slot)) }
 {
     let (word, is_tagged) = memory.word_at(slot);
-    let fields = decode(word);
-    if is_tagged && fields.otype == SENTRY {
-        calls.push(Call {
-            slot,
-            cursor: fields.cursor,
-            object,
-        })?;
+    if !is_tagged {
+        return Ok(());
     }
+    let fields = decode(word);
+    if fields.otype != SENTRY {
+        return Ok(());
+    }
+    calls.push(Call {
+        slot,
+        cursor: fields.cursor,
+        object,
+    })?;
     Ok(())
 }
 
