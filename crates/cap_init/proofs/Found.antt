@@ -1,18 +1,15 @@
 -- What is found at a granule, and whether it is a sentry.
-use Rattle.std.proofs.Common.{◌≡◌, inl, inr, ℕ, ◌+◌, ◌-◌, ◌*◌, Bool, true, false, cond, Option, Some, None, List, [], ◌∷◌, ◌++◌, All, refl, sym, ap, ◌∙◌, arith, subst}
-use Rattle.std.specs.Prelude.{nat_eq, find, is_some, map, flat_map}
-use Rattle.std.specs.List.{range_with_len}
+use Rattle.std.proofs.Common.{◌≡◌, inl, inr, ℕ, ◌-◌, Bool, true, false, cond, Option, Some, None, List, [], ◌∷◌, All, refl, sym, ap, ◌∙◌, subst}
+use Rattle.std.specs.Prelude.{nat_eq, find, is_some}
 use Rattle.std.proofs.lemmas.Bool.{cases_Bool, eqb-true, ne_eqb, true≢false}
 use Rattle.std.proofs.lemmas.List.Elements.{All-head, All-tail}
 use Rattle.cap_conc.specs.declared.word.Fields.{Fields}
-use Rattle.cap_conc.specs.declared.word.Word.{Word}
 use Rattle.cap_conc.specs.Computed.{fields_of}
-use Rattle.cap_elf.specs.DynView.{DynRecords}
 use Rattle.cap_mem.specs.Held.{cap_in, fields_in}
 use Rattle.cap_mem.specs.IsMemory.{IsHeld, IsMemory}
 use Rattle.cap_mem.specs.Tagged.{TaggedMemory, TaggedWord, is_tagged, stands_at, tagged_word, word_in}
 use Rattle.cap_init.specs.declared.call.Call.{Call}
-use Rattle.cap_init.specs.Calls.{call_of, found_call}
+use Rattle.cap_init.specs.Calls.{found_call}
 
 -- what is found there, and holds of all
 pub found_has : (P : TaggedWord → Type 0) (granule : ℕ) (w : TaggedWord) (words : List TaggedWord) → All P words → find (stands_at granule) words ≡ Some w → P w × (w.granule ≡ granule)

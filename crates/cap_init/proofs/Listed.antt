@@ -1,5 +1,5 @@
 -- The calls of an object and of all objects, one more at a time.
-use Rattle.std.proofs.Common.{◌≡◌, ℕ, ◌+◌, ◌-◌, ◌*◌, ◌/◌, ◌<◌, ◌≤◌, List, [], ◌∷◌, ◌++◌, length, get_or, drop, take, refl, sym, ap, ◌∙◌, arith, append_assoc}
+use Rattle.std.proofs.Common.{◌≡◌, ℕ, ◌+◌, ◌-◌, ◌*◌, ◌/◌, ◌<◌, ◌≤◌, List, [], ◌∷◌, ◌++◌, length, get_or, drop, refl, sym, ap, ◌∙◌, arith, append_assoc}
 use Rattle.std.specs.Prelude.{map, flat_map}
 use Rattle.std.specs.List.{range_with_len}
 use Rattle.std.proofs.lemmas.List.{append-nil, drop_all, drop_more, flat_map_more, get_or_default, get_or-map, length-map}
@@ -8,7 +8,7 @@ use Rattle.cap_elf.specs.DynView.{DynRecords, DynValue}
 use Rattle.cap_mem.specs.Tagged.{TaggedMemory, fresh_memory, tagged_word}
 use Rattle.cap_scope.specs.Chosen.{object_at, no_records}
 use Rattle.cap_init.specs.declared.call.Call.{Call}
-use Rattle.cap_init.specs.Calls.{array_granules, calls_in, calls_of, found_call, memory_at}
+use Rattle.cap_init.specs.Calls.{calls_in, calls_of, found_call, memory_at}
 use Rattle.cap_init.specs.Listing.{calls_below}
 
 pub calls_none : (number : ℕ) (object : DynRecords) (memory : TaggedMemory) → calls_below number object memory 0 ≡ []

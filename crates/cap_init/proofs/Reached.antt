@@ -1,5 +1,5 @@
 -- Laws of the order of a group, over its dependencies alone.
-use Rattle.std.proofs.Common.{◌≡◌, ◌⊎◌, inl, inr, ℕ, zero, suc, ◌+◌, ◌-◌, ◌<◌, ◌≤◌, true, false, not, ◌||◌, cond, List, [], ◌∷◌, ◌++◌, AllPairs, length, get_or, refl, sym, ap, ◌∙◌, arith, subst}
+use Rattle.std.proofs.Common.{◌≡◌, ◌⊎◌, inl, inr, ℕ, zero, suc, ◌-◌, ◌<◌, ◌≤◌, true, false, not, ◌||◌, cond, List, [], ◌∷◌, ◌++◌, AllPairs, length, get_or, refl, sym, ap, ◌∙◌, arith, subst}
 use Rattle.std.specs.Prelude.{◌==◌, ◌≢◌, fold}
 use Rattle.std.proofs.lemmas.Bool.{and_from, cases_Bool, eqb-true, eq-eqb, le-leb, lt-ltb, not_from_true, or_cases, or_left, or_parts, or_right, both_ways, false_from_ne_true}
 use Rattle.std.proofs.lemmas.List.FromFn.{length-range_with_len}
@@ -83,27 +83,27 @@ module _ (deps : List (List ℕ)) (from to : ℕ) where
 
   passed-over : (path ended : List ℕ) (i : ℕ) → is_passed from to path ended i ≡ true → Good path ended → Visits path ended i ended
   passed-over path ended i p good = record {
-      old = λ k h. h;
-      new = λ k h. inl h;
-      was = λ m. elim (or_cases (not (is_member from to i) || has i path) (has i ended) p) [
-        | inr h ↦ inl h
-        | inl h ↦ elim (or_cases (not (is_member from to i)) (has i path) h) [
-          | inr on ↦ inr on
-          | inl out ↦ absurd (both_ways (not (is_member from to i)) (not_from_true _ m) out)
-        ]
-      ];
-      good = good;
-    }
+    old = λ k h. h;
+    new = λ k h. inl h;
+    was = λ m. elim (or_cases (not (is_member from to i) || has i path) (has i ended) p) [
+      | inr h ↦ inl h
+      | inl h ↦ elim (or_cases (not (is_member from to i)) (has i path) h) [
+        | inr on ↦ inr on
+        | inl out ↦ absurd (both_ways (not (is_member from to i)) (not_from_true _ m) out)
+      ]
+    ];
+    good = good;
+  }
 
   wider : (path ended : List ℕ) (i : ℕ) → Good path ended → Good (i ∷ path) ended
   wider path ended i good = record {
-      once = good.once;
-      closed = λ k j h needed. elim (good.closed k j h needed) [
-        | inl e ↦ inl e
-        | inr p ↦ inr (or_right (i == j) (has j path) p)
-      ];
-      settled = good.settled;
-    }
+    once = good.once;
+    closed = λ k j h needed. elim (good.closed k j h needed) [
+      | inl e ↦ inl e
+      | inr p ↦ inr (or_right (i == j) (has j path) p)
+    ];
+    settled = good.settled;
+  }
 
   -- an object that was begun is ended
   ended-good : (path ended : List ℕ) (i : ℕ) (after : List ℕ) → is_passed from to path ended i ≡ false → Leads path i → VisitsAll path ended i (needs deps i) after → Visits path ended i (after ++ i ∷ [])
@@ -155,13 +155,13 @@ module _ (deps : List (List ℕ)) (from to : ℕ) where
 
   -- visits in turn
   visits-all : (path : List ℕ) (i : ℕ) (f : List ℕ → ℕ → List ℕ) → ((ended : List ℕ) (j : ℕ) → has j (needs deps i) ≡ true → Good (i ∷ path) ended → Visits (i ∷ path) ended j (f ended j))
-    → (js : List ℕ) → ((j : ℕ) → has j js ≡ true → has j (needs deps i) ≡ true) → (ended : List ℕ) → Good (i ∷ path) ended → VisitsAll path ended i js (fold f ended js)
+      → (js : List ℕ) → ((j : ℕ) → has j js ≡ true → has j (needs deps i) ≡ true) → (ended : List ℕ) → Good (i ∷ path) ended → VisitsAll path ended i js (fold f ended js)
   visits-all path i f each [] inside ended good = record {
-      old = λ k h. h;
-      new = λ k h. inl h;
-      were = λ j h m. absurd (both_ways false refl h);
-      good = good;
-    }
+    old = λ k h. h;
+    new = λ k h. inl h;
+    were = λ j h m. absurd (both_ways false refl h);
+    good = good;
+  }
   visits-all path i f each (j ∷ js) inside ended good =
       let needed : has j (needs deps i) ≡ true = inside j (or_left (j == j) (has j js) (eq-eqb j j refl)) in
       let one = each ended j needed good in
@@ -199,7 +199,7 @@ module _ (deps : List (List ℕ)) (from to : ℕ) where
           | inr up ↦ let r = leads q up fresh.0 in route-more q i j r.0 r.1 (h, m)
         ] in
         let each : (e : List ℕ) (j : ℕ) → has j (needs deps i) ≡ true → Good (i ∷ path) e → Visits (i ∷ path) e j (visited n deps from to (i ∷ path) e j) =
-            λ e j h g. visits n (i ∷ path) e j (omega (arith, less, few)) (leads_on j h) g in
+        λ e j h g. visits n (i ∷ path) e j (omega (arith, less, few)) (leads_on j h) g in
         let all = visits-all path i (λ e j. visited n deps from to (i ∷ path) e j) each (needs deps i) (λ j h. h) ended (wider path ended i good) in
         subst (λ (after : List ℕ). Visits path ended i after) (sym (ap (split deps from to n path ended i) p)) (ended-good path ended i _ p leads all)
   ]

@@ -1,5 +1,5 @@
 -- Orders and calls that are known.
-use Rattle.std.specs.Prelude.{◌≡◌, List, [], ◌∷◌, true, refl}
+use Rattle.std.specs.Prelude.{◌≡◌, [], ◌∷◌, true, refl}
 use Rattle.cap_init.specs.Calls.{calls_of}
 use Rattle.cap_init.specs.Post.{init_order, post_of}
 use Rattle.cap_scope.specs.Chosen.{no_records}

@@ -1,5 +1,5 @@
 -- Laws of the order and of the calls.
-use Rattle.std.specs.Prelude.{◌≡◌, ◌≢◌, ◌⊎◌, ◌↔◌, ℕ, ◌<◌, Bool, true, ◌==◌, List, [], ◌∷◌, All, AllPairs, Some, if◌then◌else◌}
+use Rattle.std.specs.Prelude.{◌≡◌, ◌≢◌, ◌⊎◌, ◌↔◌, ℕ, ◌<◌, true, ◌==◌, List, [], ◌∷◌, All, AllPairs, Some, if◌then◌else◌}
 use Rattle.cap_chain.specs.Adopted.{has}
 use Rattle.cap_elf.specs.DynView.{DynRecords}
 use Rattle.cap_init.specs.declared.call.Call.{Call}

@@ -1,5 +1,5 @@
 -- A walk part way: its path from the first object on, what is left of it, and how much work that is.
-use Rattle.std.specs.Prelude.{◌≡◌, ℕ, ◌+◌, ◌-◌, ◌<◌, Bool, true, false, not, ◌||◌, List, [], ◌∷◌, ◌++◌, length, drop, fold, slice_index_or, All, if◌then◌else◌}
+use Rattle.std.specs.Prelude.{◌≡◌, ℕ, ◌+◌, ◌-◌, ◌<◌, Bool, false, not, ◌||◌, List, [], ◌∷◌, ◌++◌, length, drop, fold, slice_index_or, All, if◌then◌else◌}
 use Rattle.cap_chain.specs.Adopted.{has}
 use Rattle.cap_init.specs.declared.walk.Frame.{Frame}
 use Rattle.cap_init.specs.Post.{is_member, needs, post_of, visited}

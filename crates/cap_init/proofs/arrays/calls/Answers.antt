@@ -1,4 +1,4 @@
-use Rattle.std.proofs.Common.{◌≡◌, ℕ, ◌<◌, ◌++◌, ◌∙◌, ap, sym, refl, arith, length, get_or}
+use Rattle.std.proofs.Common.{ℕ, ◌<◌, ◌++◌, ◌∙◌, ap, sym, refl, arith, length, get_or}
 use Rattle.std.specs.Prelude.{map}
 use Rattle.cap_scope.specs.Chosen.{object_at}
 use Rattle.cap_init.specs.Calls.{calls_in}
@@ -19,9 +19,9 @@ loop-i-preserved c =
     let lt : i < length objects = c.requires.numbers c.loop-i.i-index 0 (omega arith) in
     let memory = memory_is objects memories i c.index-memories-place.result c.requires.spans lt c.index-memories-place.is in
     let more =
-        c.in_ok-push_calls.ensures
-        ∙ ap (λ o. c.loop-i.calls.items ++ calls_in i o c.index-memories-place.result) (sym (records_are objects i c.index-objects-place.result lt c.index-objects-place.is))
-        ∙ ap (λ m. c.loop-i.calls.items ++ calls_in i (object_at (map (λ o. o.records) objects) i) m) (sym memory) in
+    c.in_ok-push_calls.ensures
+    ∙ ap (λ o. c.loop-i.calls.items ++ calls_in i o c.index-memories-place.result) (sym (records_are objects i c.index-objects-place.result lt c.index-objects-place.is))
+    ∙ ap (λ m. c.loop-i.calls.items ++ calls_in i (object_at (map (λ o. o.records) objects) i) m) (sym memory) in
     objects_more (map (λ o. o.records) objects) memories c.args.order.now c.loop-i.i-index i c.loop-i.calls.items c.push_calls.new.calls.items _ (omega arith) refl more c.loop-i.invariant
 
 pub returns : goal.returns

@@ -1,4 +1,4 @@
-use Rattle.std.proofs.Common.{◌≡◌, ℕ, ◌+◌, ◌++◌, ◌∙◌, ap, refl, arith, length, get_or}
+use Rattle.std.proofs.Common.{◌≡◌, ◌+◌, ◌++◌, ◌∙◌, ap, refl, arith, length, get_or}
 use Rattle.cap_init.proofs.Starts.{starts_ascend, groups_more}
 use Rattle.cap_init.proofs.groups.initial_order.Goals as goal
 

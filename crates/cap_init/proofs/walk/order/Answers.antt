@@ -1,4 +1,4 @@
-use Rattle.std.proofs.Common.{◌≡◌, ℕ, ◌-◌, Bool, true, false, List, [], ◌∷◌, ◌++◌, ◌∙◌, cond, ap, refl, subst, sym, arith, length, replicate, set, take}
+use Rattle.std.proofs.Common.{◌≡◌, ℕ, ◌-◌, Bool, true, false, List, [], ◌∷◌, ◌++◌, ◌∙◌, cond, ap, subst, sym, replicate, set, take}
 use Rattle.cap_init.specs.declared.walk.Frame.{Frame}
 use Rattle.cap_init.specs.Walking.{IsWalk, is_begun}
 use Rattle.cap_init.proofs.PartWay.{walk_begun, walk_over}

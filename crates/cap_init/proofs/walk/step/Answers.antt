@@ -1,4 +1,4 @@
-use Rattle.std.proofs.Common.{◌≡◌, ℕ, ◌+◌, ◌<◌, ◌≤◌, List, [], ◌∷◌, ◌++◌, ◌∙◌, cond, ap, subst, sym, length, get_or, set, true}
+use Rattle.std.proofs.Common.{◌≡◌, ℕ, ◌+◌, ◌<◌, ◌≤◌, List, [], ◌∷◌, ◌++◌, ◌∙◌, cond, ap, subst, length, get_or}
 use Rattle.cap_init.specs.declared.walk.Frame.{Frame}
 use Rattle.cap_init.specs.Post.{needs}
 use Rattle.cap_init.specs.Walking.{is_begun}
