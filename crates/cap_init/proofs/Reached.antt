@@ -1,5 +1,5 @@
 -- Laws of the order of a group, over its dependencies alone.
-use Rattle.std.proofs.Common.{◌≡◌, ◌⊎◌, inl, inr, ℕ, zero, suc, ◌-◌, ◌<◌, ◌≤◌, true, false, not, ◌||◌, cond, List, [], ◌∷◌, ◌++◌, AllPairs, length, get_or, refl, sym, ap, ◌∙◌, arith, subst}
+use Rattle.std.proofs.Common.{◌≡◌, ◌⊎◌, inl, inr, ℕ, zero, suc, ◌-◌, ◌<◌, ◌≤◌, true, false, not, ◌||◌, cond, List, [], ◌∷◌, ◌++◌, All, AllPairs, length, get_or, refl, sym, ap, ◌∙◌, arith, subst}
 use Rattle.std.specs.Prelude.{◌==◌, ◌≢◌, fold}
 use Rattle.std.proofs.lemmas.Bool.{and_from, cases_Bool, eqb-true, eq-eqb, le-leb, lt-ltb, not_from_true, or_cases, or_left, or_parts, or_right, both_ways, false_from_ne_true}
 use Rattle.std.proofs.lemmas.List.FromFn.{length-range_with_len}
@@ -8,7 +8,7 @@ use Rattle.cap_chain.specs.Adopted.{has}
 use Rattle.cap_chain.proofs.SoundLemmas.{has-append}
 use Rattle.cap_init.specs.Laws.{IsRoute, Reaches, before}
 use Rattle.cap_init.specs.Post.{is_member, is_passed, needs, post_of, visited}
-use Rattle.cap_init.proofs.Depth.{begun_passed, has-member, members, new_parts, others, others-le, others-less, split}
+use Rattle.cap_init.proofs.Depth.{begun_passed, has-member, member_parts, members, new_parts, others, others-le, others-less, split}
 
 has-left : (k : ℕ) (xs ys : List ℕ) → has k xs ≡ true → has k (xs ++ ys) ≡ true
 has-left k xs ys h = has-append k xs ys ∙ or_left (has k xs) (has k ys) h
@@ -240,3 +240,13 @@ module _ (deps : List (List ℕ)) (from to : ℕ) where
         | inl e ↦ e
         | inr never ↦ absurd (both_ways false refl never)
       ])
+
+  route-inside : (i k : ℕ) (route : List ℕ) → is_member from to i ≡ true → IsRoute deps from to i route k → is_member from to k ≡ true
+  route-inside i k [] m is = ap (is_member from to) (sym is) ∙ m
+  route-inside i k (j ∷ route) m is = route-inside j k route is.1 is.2
+
+  pub post_inside : (n : ℕ) → from < to → to ≤ n → All (λ i. i < n) (post_of deps from to)
+  post_inside n some le k d lt =
+      let in_group : is_member from to from ≡ true = and_from _ _ (le-leb from from (omega arith)) (lt-ltb from to some) in
+      let r = is_reached (get_or (post_of deps from to) k d) (has-at (post_of deps from to) k d lt) in
+      omega (arith, (member_parts from to (get_or (post_of deps from to) k d) (route-inside from (get_or (post_of deps from to) k d) r.0 in_group r.1)).1, le)

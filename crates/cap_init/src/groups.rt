@@ -22,9 +22,9 @@ fn end_of_group(starts: &[u32], k: usize, count: u32) -> u32
 /// All objects, group by group, each group in its order. A group begins at each start, and goes up to the next one or to
 /// the end.
 pub fn initial_order(alloc: Global, deps: &Deps, starts: &[u32]) -> Result<Vec<u32>, NoMemory>
-    requires starts { AreStarts starts.now (length deps.now) }
-    requires numbers { All (λ of. All (λ i. i < length deps.now) of) deps.now }
-    ensures { IfOk result (λ order. order.items ≡ init_order deps.now starts.now (length deps.now)) }
+    requires { AreStarts starts.now (length deps.now) }
+    ensures order { IfOk result (λ order. order.items ≡ init_order deps.now starts.now (length deps.now)) }
+    ensures inside { IfOk result (λ order. All (λ i. i < length deps.now) order.items) }
 {
     let mut all = Vec::new(alloc);
     for k in 0..starts.len() {

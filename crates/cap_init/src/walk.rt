@@ -77,8 +77,8 @@ fn step(
 pub fn order(alloc: Global, deps: &Deps, from: u32, to: u32) -> Result<Vec<u32>, NoMemory>
     requires some { from < to }
     requires inside { to ≤ length deps.now }
-    requires numbers { All (λ of. All (λ i. i < length deps.now) of) deps.now }
-    ensures { IfOk result (λ order. order.items ≡ post_of deps.now from to) }
+    ensures order { IfOk result (λ order. order.items ≡ post_of deps.now from to) }
+    ensures inside { IfOk result (λ order. All (λ i. i < length deps.now) order.items) }
 {
     let mut begun = vec![in alloc; false; (to - from) as usize]?;
     let mut path = Vec::new(alloc);

@@ -1,6 +1,7 @@
-use Rattle.std.proofs.Common.{◌≡◌, ℕ, ◌-◌, Bool, true, false, List, [], ◌∷◌, ◌++◌, ◌∙◌, cond, ap, subst, sym, replicate, set, take}
+use Rattle.std.proofs.Common.{◌≡◌, ℕ, ◌-◌, Bool, true, false, List, [], ◌∷◌, ◌++◌, ◌∙◌, cond, ap, subst, sym, replicate, set, take, length}
 use Rattle.cap_init.specs.declared.walk.Frame.{Frame}
 use Rattle.cap_init.specs.Walking.{IsWalk, is_begun}
+use Rattle.cap_init.proofs.Reached.{post_inside}
 use Rattle.cap_init.proofs.PartWay.{walk_begun, walk_over}
 use Rattle.cap_init.proofs.walk.order.Goals as goal
 
@@ -22,4 +23,8 @@ pub returns : goal.returns
 returns c =
     let popped = c.in_default.ensures in
     let over : c.loop-frame.path.items ≡ [] = popped.items ∙ ap (λ fs. fs ++ []) (popped.rest ∙ ap (λ n. take (n - 1) c.loop-frame.path.items) popped.cases.0) in
-    walk_over c.args.deps.now c.args.from c.args.to c.loop-frame.begun.items c.loop-frame.ended.items (subst (λ (path : List Frame). IsWalk c.args.deps.now c.args.from c.args.to c.loop-frame.begun.items path c.loop-frame.ended.items) over c.loop-frame.invariant)
+    let is = walk_over c.args.deps.now c.args.from c.args.to c.loop-frame.begun.items c.loop-frame.ended.items (subst (λ (path : List Frame). IsWalk c.args.deps.now c.args.from c.args.to c.loop-frame.begun.items path c.loop-frame.ended.items) over c.loop-frame.invariant) in
+    record {
+      order = is;
+      inside = rw is (post_inside c.args.deps.now c.args.from c.args.to (length c.args.deps.now) c.requires.some c.requires.inside);
+    }
