@@ -25,3 +25,6 @@ pub use call::{Call, Calls};
 pub use groups::initial_order;
 pub use laws::{call_laws, order_laws};
 pub use walk::order;
+
+#[cfg(test)]
+mod tests;
