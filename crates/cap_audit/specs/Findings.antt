@@ -15,9 +15,13 @@ abbrev pub version_findings : ImageParts → ImageParts → List Finding
 version_findings image wanted =
     if version_number image.version == version_number wanted.version then [] else record { what = Version; object = 0; at = 8 } ∷ []
 
--- both images have the object: with one base, one size and one name
+-- two objects have one base, one size and one name
+abbrev pub have_same_head : ImageObject → ImageObject → Bool
+have_same_head a b = a.base == b.base && length a.bytes == length b.bytes && bytes_eq a.name b.name
+
+-- both images have the object, and it is the same
 abbrev pub is_same_object : Option ImageObject → Option ImageObject → Bool
-is_same_object (Some a) (Some b) = a.base == b.base && length a.bytes == length b.bytes && bytes_eq a.name b.name
+is_same_object (Some a) (Some b) = have_same_head a b
 is_same_object (Some a) None = false
 is_same_object None b = false
 
@@ -26,13 +30,14 @@ abbrev pub object_finding : ImageParts → ImageParts → ℕ → Option Finding
 object_finding image wanted k =
     if is_same_object (slice_get image.objects k) (slice_get wanted.objects k) then None else Some (record { what = Object; object = k; at = 0 })
 
-abbrev pub object_findings : ImageParts → ImageParts → List Finding
-object_findings image wanted =
-    filter_map (object_finding image wanted) (range_with_len 0 (max (length image.objects) (length wanted.objects)))
+-- the findings of the first n objects
+unfoldable pub objects_below : ImageParts → ImageParts → ℕ → List Finding
+objects_below image wanted n = filter_map (object_finding image wanted) (range_with_len 0 n)
 
 -- the findings of the version and of the objects
-unfoldable pub head_findings : ImageParts → ImageParts → List Finding
-head_findings image wanted = version_findings image wanted ++ object_findings image wanted
+abbrev pub head_findings : ImageParts → ImageParts → List Finding
+head_findings image wanted =
+    version_findings image wanted ++ objects_below image wanted (max (length image.objects) (length wanted.objects))
 
 -- the tag, the 16 bytes and the word record of granule n of an object
 abbrev pub tag_of : ImageObject → ℕ → Bool

@@ -14,8 +14,10 @@
 #![tactic(auto)]
 
 mod comparing;
+mod differing;
 mod finding;
 mod laws;
+mod object;
 mod reporting;
 
 pub use comparing::compare;

@@ -48,7 +48,7 @@ fn enter(entries: &mut Vec<Option<u32>>, image: &Image, i: u32, k: u32)
 
 /// The number of the word record of a granule of object `i`.
 #[tactic(auto, using(crate::proofs::Entering::entry))]
-pub fn entry_of(entries: &[Option<u32>], image: &Image, i: u32, granule: u64) -> Option<u32>
+pub(crate) fn entry_of(entries: &[Option<u32>], image: &Image, i: u32, granule: u64) -> Option<u32>
     requires object { i < length image.now.objects }
     requires granule { IsGranuleOf (slice_index_or image.now.objects i no_object) granule }
     requires entries { AreEntries (slice_index_or image.now.objects i no_object) 0 entries.now }

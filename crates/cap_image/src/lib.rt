@@ -32,7 +32,7 @@ mod words;
 mod writing;
 
 pub use digits::{push_decimal, push_hex, push_number};
-pub use entries::{entries_of, entry_of};
+pub use entries::entries_of;
 pub use header::Version;
 pub use image::{Image, read};
 pub use laws::image_laws;
