@@ -89,17 +89,17 @@ pairs_of_map R f [] h = λ i j d less lt. absurd (omega (arith, lt))
 pairs_of_map R f (x ∷ xs) h =
     AllPairs-cons R (f x) (map f xs) (All-map (R (f x)) f xs (λ k d lt. h zero (suc k) d (omega arith) (omega (arith, lt)))) (pairs_of_map R f xs (λ i j d less lt. h (suc i) (suc j) d (omega (arith, less)) (omega (arith, lt))))
 
-piece_len : (bytes : List ℕ) (at len : ℕ) → at + len ≤ length bytes → length (piece bytes at len) ≡ len
+pub piece_len : (bytes : List ℕ) (at len : ℕ) → at + len ≤ length bytes → length (piece bytes at len) ≡ len
 piece_len bytes at len le = let rest : length (drop at bytes) ≡ length bytes - at = length-drop at bytes in length-take-le len (drop at bytes) (omega (arith, rest, le))
 
 module _ (bytes : List ℕ) (body : BodyParts) (is : IsRecord bytes body.of) (ends : body.bytes_at + body.of.size + body.of.size / 128 ≤ length bytes) where
-  bytes_len : length (object_in bytes body).bytes ≡ body.of.size
+  pub bytes_len : length (object_in bytes body).bytes ≡ body.of.size
   bytes_len = piece_len bytes body.bytes_at body.of.size (omega (arith, ends))
 
   tags_len : length (object_in bytes body).tags ≡ body.of.size / 128
   tags_len = piece_len bytes (body.bytes_at + body.of.size) (body.of.size / 128) ends
 
-  is_object : IsObject (object_in bytes body)
+  pub is_object : IsObject (object_in bytes body)
   is_object =
       let name_len : length (object_in bytes body).name ≡ body.of.name_len = piece_len bytes body.of.name_at body.of.name_len is.name_inside in
       record {

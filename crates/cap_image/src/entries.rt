@@ -14,7 +14,7 @@ use cap_base::NoMemory;
 use std::alloc::Global;
 
 /// The number of its word record, for each granule of object `i`.
-pub(crate) fn entries_of(alloc: Global, image: &Image, i: u32) -> Result<Vec<Option<u32>>, NoMemory>
+pub fn entries_of(alloc: Global, image: &Image, i: u32) -> Result<Vec<Option<u32>>, NoMemory>
     requires { i < length image.now.objects }
     ensures { IfOk result (λ entries. AreEntries (slice_index_or image.now.objects i no_object) 0 entries.items) }
 {

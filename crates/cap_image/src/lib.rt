@@ -31,9 +31,12 @@ mod word_walk;
 mod words;
 mod writing;
 
+pub use digits::{push_decimal, push_hex, push_number};
+pub use entries::entries_of;
 pub use header::Version;
 pub use image::{Image, read};
 pub use laws::image_laws;
 pub use reporting::report;
+pub use tags::has_tag;
 pub use words::WordNote;
 pub use writing::write;

@@ -3,10 +3,10 @@
 ghost use Rattle.std.specs.Prelude.{◌≡◌, ◌++◌, ◌+◌, ◌-◌, ◌<◌, ◌≤◌, OnOk, Some, length, slice_index_or};
 ghost use Rattle.cap_conc.specs.Computed.{fields_of};
 ghost use Rattle.cap_image.specs.Parts.{no_object, no_word};
-ghost use Rattle.cap_image.specs.Report.{hex, object_line, cap_line, fields_text, seal_text, flag_text as flag_text_of, last_line, name_text as name_text_of, record_text, source_text, word_in as word_in_of, IsGranuleOf};
+ghost use Rattle.cap_image.specs.Report.{object_line, cap_line, fields_text, seal_text, flag_text as flag_text_of, last_line, name_text as name_text_of, record_text, source_text, word_in as word_in_of, IsGranuleOf};
 ghost use Rattle.cap_image.specs.Entries.{numbered, IsNumber, AreEntries};
 
-use crate::digits::{push_decimal, push_hex};
+use crate::digits::{push_decimal, push_number};
 use crate::entries::entry_of;
 use crate::image::Image;
 use cap_base::{NoMemory, u64_in};
@@ -173,12 +173,4 @@ fn push_seal(text: &mut Vec<u8>, object_type: u32) -> Result<(), NoMemory>
         }
     }
     Ok(())
-}
-
-/// Appends a number in base 16 behind what it is called.
-fn push_number(text: &mut Vec<u8>, label: &[u8], number: u128, digits: u32) -> Result<(), NoMemory>
-    ensures { OnOk result (text.new.items ≡ text.old.items ++ label.now ++ hex digits number) }
-{
-    text.extend_from_slice(label)?;
-    push_hex(text, number, digits)
 }

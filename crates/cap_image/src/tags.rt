@@ -9,7 +9,7 @@ use cap_base::NoMemory;
 use std::alloc::Global;
 
 /// Whether the granule is tagged that holds the byte at an offset of the object.
-pub(crate) fn has_tag(tags: &[u8], offset: u64) -> bool
+pub fn has_tag(tags: &[u8], offset: u64) -> bool
     requires { offset / 128 < length tags.now }
     ensures { result ≡ has_tag_of tags.now offset }
 {

@@ -1,0 +1,5 @@
+pub mod Findings
+pub mod Alike
+pub mod ObjectFields
+pub mod Report
+pub mod AuditLaws
