@@ -11,3 +11,4 @@ pub mod WordWalk
 pub mod WalkFields
 pub mod MemoryParts
 pub mod ImageLaws
+pub mod ReadBack
