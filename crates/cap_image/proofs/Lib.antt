@@ -13,3 +13,5 @@ pub mod Counts
 pub mod MemoryBytes
 pub mod Sizes
 pub mod ImageOf
+pub mod ReadBack
+pub mod ReadBackWords
