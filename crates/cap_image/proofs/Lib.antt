@@ -15,3 +15,6 @@ pub mod Sizes
 pub mod ImageOf
 pub mod ReadBack
 pub mod ReadBackWords
+pub mod ReadBackRecords
+pub mod ReadBackBodies
+pub mod ReadBackImage
