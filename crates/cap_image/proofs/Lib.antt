@@ -18,3 +18,4 @@ pub mod ReadBackWords
 pub mod ReadBackRecords
 pub mod ReadBackBodies
 pub mod ReadBackImage
+pub mod MadeImages
