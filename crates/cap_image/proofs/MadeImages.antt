@@ -1,6 +1,6 @@
 -- The image of memories that can be read is an image.
-use Rattle.std.proofs.Common.{◌≡◌, ℕ, zero, suc, ◌+◌, ◌-◌, ◌*◌, ◌/◌, ◌%◌, ◌^◌, ◌<◌, ◌≤◌, ◌==◌, Bool, true, false, cond, List, [], ◌∷◌, length, map, get_or, Some, None, refl, sym, ap, ◌∙◌, subst, arith, nat_eq, ⊎_elim}
-use Rattle.std.specs.Prelude.{◌≢◌, All, AllPairs, IsTrue, find, is_some, nat_le, nat_lt}
+use Rattle.std.proofs.Common.{◌≡◌, ℕ, zero, suc, ◌+◌, ◌-◌, ◌*◌, ◌/◌, ◌%◌, ◌<◌, ◌≤◌, ◌==◌, Bool, true, false, cond, List, [], ◌∷◌, length, map, get_or, Some, refl, sym, ap, ◌∙◌, subst, arith, ⊎_elim}
+use Rattle.std.specs.Prelude.{◌≢◌, All, AllPairs, IsTrue, find, is_some}
 use Rattle.std.specs.List.{zip}
 use Rattle.std.proofs.lemmas.Bool.{le-leb, lt-ltb, eq-eqb, ne_eqb, cases_eq}
 use Rattle.std.proofs.lemmas.List.{length-map}
@@ -9,13 +9,13 @@ use Rattle.std.proofs.lemmas.List.FromFn.{length-map-range_with_len}
 use Rattle.std.proofs.lemmas.Slice.Zip.{get_or-zip, length-zip}
 use Rattle.cap_base.specs.Text.{is_plain}
 use Rattle.cap_mem.specs.Ascending.{Ascend as MemoriesAscend}
-use Rattle.cap_mem.specs.IsMemory.{IsHeld, IsMemory}
+use Rattle.cap_mem.specs.IsMemory.{IsHeld}
 use Rattle.cap_mem.specs.Tagged.{TaggedMemory, TaggedWord, is_tagged, stands_at}
 use Rattle.cap_image.specs.declared.header.Version.TheVariants.{Two}
-use Rattle.cap_image.specs.Parts.{WordRecord, ImageObject, IsObject, IsWord, FollowsWord, AreWords, HasWords, IsImage, Ascend, interval_of, has_tag, is_tagged_granule, space_start, space_end}
+use Rattle.cap_image.specs.Parts.{ImageObject, IsObject, IsWord, FollowsWord, HasWords, Ascend, interval_of, has_tag, is_tagged_granule, space_start, space_end}
 use Rattle.cap_image.specs.Words.{count_below}
-use Rattle.cap_image.specs.Writing.{tag_bytes, first_tag_bytes, record_of, records_of, object_of, objects_of, image_of, IsWritable, IsObjectName, AreShort, CanBeWritten}
-use Rattle.cap_image.specs.ReadBack.{IsMapped, ArePlain, CanBeRead, MemoriesAreImages}
+use Rattle.cap_image.specs.Writing.{tag_bytes, first_tag_bytes, record_of, records_of, object_of, objects_of, IsWritable, IsObjectName, AreShort}
+use Rattle.cap_image.specs.ReadBack.{IsMapped, ArePlain, MemoriesAreImages}
 use Rattle.cap_image.proofs.ImageOf.{tags_of}
 use Rattle.cap_image.proofs.Listing.{pairs_of_map}
 use Rattle.cap_image.proofs.TagCounts.{one_counted, granules_counted}

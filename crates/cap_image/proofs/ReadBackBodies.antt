@@ -1,5 +1,5 @@
 -- The bodies of objects are read back.
-use Rattle.std.proofs.Common.{◌≡◌, ℕ, zero, suc, ◌+◌, ◌-◌, ◌/◌, ◌%◌, ◌^◌, ◌<◌, ◌≤◌, List, [], ◌∷◌, ◌++◌, length, get_or, take, drop, map, Result, Ok, refl, sym, ap, ◌∙◌, subst, arith, append_assoc, append-nil, length-append}
+use Rattle.std.proofs.Common.{◌≡◌, ℕ, zero, suc, ◌+◌, ◌/◌, ◌<◌, ◌≤◌, List, [], ◌∷◌, ◌++◌, length, drop, map, Result, Ok, refl, sym, ap, ◌∙◌, arith, append_assoc, append-nil, length-append}
 use Rattle.std.specs.Prelude.{All, flat_map}
 use Rattle.std.proofs.lemmas.Bool.{le-leb}
 use Rattle.std.proofs.lemmas.List.{map-append}
@@ -14,7 +14,7 @@ use Rattle.cap_image.specs.Bodies.{BodyParts, Bodies, body_at, add_body, object_
 use Rattle.cap_image.specs.Writing.{body_bytes, words_bytes}
 use Rattle.cap_image.proofs.ReadBack.{behind, piece_is, room}
 use Rattle.cap_image.proofs.ReadBackRecords.{record_for, records_from, NamesStand}
-use Rattle.cap_image.proofs.ReadBackWords.{WordsRead, words_read}
+use Rattle.cap_image.proofs.ReadBackWords.{words_read}
 
 -- a body that was read
 record BodyRead (bytes : List ℕ) (o : ImageObject) (rest : List ℕ) (read : Result BodyParts Fault) : Type 0 where

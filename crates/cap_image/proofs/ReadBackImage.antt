@@ -1,18 +1,16 @@
 -- An image is read back.
-use Rattle.std.proofs.Common.{◌≡◌, ℕ, ◌+◌, ◌<◌, ◌≤◌, List, [], ◌∷◌, ◌++◌, length, drop, map, Result, Ok, refl, sym, ap, ◌∙◌, subst, arith, append-nil, append_assoc}
+use Rattle.std.proofs.Common.{◌≡◌, ℕ, List, [], ◌++◌, length, drop, Ok, refl, sym, ap, ◌∙◌, append-nil, append_assoc}
 use Rattle.std.specs.Prelude.{flat_map}
 use Rattle.std.proofs.lemmas.Bool.{le-ltb}
-use Rattle.cap_base.specs.Steps.{◌>>=◌, ◌>>◌, steps}
-use Rattle.cap_image.specs.declared.header.Version.{Version}
-use Rattle.cap_image.specs.Parts.{ImageObject, ImageParts, IsImage}
+use Rattle.cap_image.specs.Parts.{ImageParts, IsImage}
 use Rattle.cap_image.specs.Header.{header_of}
-use Rattle.cap_image.specs.Records.{no_records, records_of}
-use Rattle.cap_image.specs.Bodies.{object_in, bodies_of}
-use Rattle.cap_image.specs.Reading.{read_image, parts_in}
-use Rattle.cap_image.specs.Writing.{field_bytes, header_bytes, object_bytes, body_bytes, image_bytes}
+use Rattle.cap_image.specs.Records.{no_records}
+use Rattle.cap_image.specs.Bodies.{bodies_of}
+use Rattle.cap_image.specs.Reading.{read_image}
+use Rattle.cap_image.specs.Writing.{header_bytes, object_bytes, body_bytes, image_bytes}
 use Rattle.cap_image.specs.ReadBack.{ImagesAreReadBack}
 use Rattle.cap_image.proofs.ReadBack.{ends}
-use Rattle.cap_image.proofs.ReadBackRecords.{header_read, behind_header, records_from, all_read as records_read}
+use Rattle.cap_image.proofs.ReadBackRecords.{header_read, behind_header, all_read as records_read}
 use Rattle.cap_image.proofs.ReadBackBodies.{all_read as bodies_read}
 
 shape : (parts : ImageParts) → image_bytes parts ≡ header_bytes parts.version (length parts.objects) ++ (flat_map object_bytes parts.objects ++ flat_map (body_bytes parts.version) parts.objects)

@@ -1,11 +1,10 @@
 -- The header and the records of objects are read back.
-use Rattle.std.proofs.Common.{◌≡◌, ℕ, zero, suc, ◌+◌, ◌-◌, ◌%◌, ◌^◌, ◌<◌, ◌≤◌, ◌==◌, Bool, true, false, ◌&&◌, List, [], ◌∷◌, ◌++◌, length, get_or, take, drop, map, Result, Ok, refl, sym, ap, ◌∙◌, subst, arith, append_assoc, append-nil, length-append}
-use Rattle.std.specs.Prelude.{All, IsTrue, not, nat_lt, nat_le, flat_map, codes}
-use Rattle.std.proofs.lemmas.Bool.{le-leb, le-ltb, lt-ltb, eq-eqb, ne_eqb}
-use Rattle.cap_base.specs.Steps.{◌>>=◌, refuse}
+use Rattle.std.proofs.Common.{◌≡◌, ℕ, zero, suc, ◌+◌, ◌%◌, ◌^◌, ◌<◌, ◌≤◌, true, List, [], ◌∷◌, ◌++◌, length, take, drop, map, Result, Ok, refl, sym, ap, ◌∙◌, arith, append_assoc, append-nil, length-append}
+use Rattle.std.specs.Prelude.{All, flat_map, codes}
+use Rattle.std.proofs.lemmas.Bool.{le-leb, le-ltb, eq-eqb, ne_eqb}
+use Rattle.cap_base.specs.Steps.{◌>>=◌}
 use Rattle.cap_base.specs.Field.{number_at}
 use Rattle.cap_base.specs.declared.refusal.Fault.{Fault}
-use Rattle.cap_image.specs.declared.header.Header.{Header}
 use Rattle.cap_image.specs.declared.header.Version.{Version}
 use Rattle.cap_image.specs.declared.header.Version.TheVariants.{One, Two}
 use Rattle.cap_image.specs.declared.records.ObjectRecord.{ObjectRecord}

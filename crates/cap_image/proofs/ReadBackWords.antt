@@ -1,14 +1,11 @@
 -- The word records of an object are read back.
-use Rattle.std.proofs.Common.{◌≡◌, ℕ, zero, suc, ◌+◌, ◌-◌, ◌*◌, ◌/◌, ◌%◌, ◌^◌, ◌<◌, ◌≤◌, ◌==◌, Bool, true, false, ◌&&◌, ◌||◌, List, [], ◌∷◌, ◌++◌, length, get_or, take, drop, map, Result, Ok, refl, sym, ap, ◌∙◌, subst, arith, append_assoc, append-nil, length-append}
-use Rattle.std.specs.Prelude.{◌≢◌, All, AllPairs, IsTrue, not, nat_lt, nat_le, flat_map}
-use Rattle.std.proofs.Math.Bool.{or-false}
+use Rattle.std.proofs.Common.{◌≡◌, ℕ, zero, suc, ◌+◌, ◌-◌, ◌*◌, ◌%◌, ◌^◌, ◌<◌, ◌≤◌, ◌==◌, true, false, ◌&&◌, ◌||◌, List, [], ◌∷◌, ◌++◌, length, get_or, drop, map, Result, Ok, refl, sym, ap, ◌∙◌, subst, arith, append_assoc, append-nil, length-append}
+use Rattle.std.specs.Prelude.{◌≢◌, All, AllPairs, IsTrue, nat_lt, nat_le, flat_map}
 use Rattle.std.proofs.lemmas.Bool.{le-leb, le-ltb, lt-ltb, eq-eqb, ne_eqb, and_parts, ltb-true}
 use Rattle.std.proofs.lemmas.List.{map-append}
-use Rattle.std.proofs.lemmas.List.Elements.{All-head, All-tail}
 use Rattle.std.proofs.lemmas.List.Folds.{list_any-append}
-use Rattle.cap_base.specs.Steps.{◌>>=◌, refuse}
+use Rattle.cap_base.specs.Steps.{◌>>=◌}
 use Rattle.cap_base.specs.Field.{number_at}
-use Rattle.cap_base.specs.Text.{is_plain}
 use Rattle.cap_base.specs.declared.refusal.Fault.{Fault}
 use Rattle.cap_image.specs.declared.header.Version.{Version}
 use Rattle.cap_image.specs.declared.header.Version.TheVariants.{One, Two}
