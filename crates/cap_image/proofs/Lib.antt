@@ -13,9 +13,10 @@ pub mod Counts
 pub mod MemoryBytes
 pub mod Sizes
 pub mod ImageOf
-pub mod ReadBack
+pub mod ReadBackPlaces
 pub mod ReadBackWords
 pub mod ReadBackRecords
 pub mod ReadBackBodies
 pub mod ReadBackImage
 pub mod MadeImages
+pub mod SoundMemories

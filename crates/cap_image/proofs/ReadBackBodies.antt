@@ -12,7 +12,7 @@ use Rattle.cap_image.specs.Records.{piece}
 use Rattle.cap_image.specs.Words.{Words, words_of, word_in}
 use Rattle.cap_image.specs.Bodies.{BodyParts, Bodies, body_at, add_body, object_in, tags_at, tags_end}
 use Rattle.cap_image.specs.Writing.{body_bytes, words_bytes}
-use Rattle.cap_image.proofs.ReadBack.{behind, piece_is, room}
+use Rattle.cap_image.proofs.ReadBackPlaces.{behind, piece_is, room}
 use Rattle.cap_image.proofs.ReadBackRecords.{record_for, records_from, NamesStand}
 use Rattle.cap_image.proofs.ReadBackWords.{words_read}
 

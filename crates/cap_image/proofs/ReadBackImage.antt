@@ -9,7 +9,7 @@ use Rattle.cap_image.specs.Bodies.{bodies_of}
 use Rattle.cap_image.specs.Reading.{read_image}
 use Rattle.cap_image.specs.Writing.{header_bytes, object_bytes, body_bytes, image_bytes}
 use Rattle.cap_image.specs.ReadBack.{ImagesAreReadBack}
-use Rattle.cap_image.proofs.ReadBack.{ends}
+use Rattle.cap_image.proofs.ReadBackPlaces.{ends}
 use Rattle.cap_image.proofs.ReadBackRecords.{header_read, behind_header, all_read as records_read}
 use Rattle.cap_image.proofs.ReadBackBodies.{all_read as bodies_read}
 

@@ -12,7 +12,7 @@ use Rattle.cap_image.specs.Header.{header_of, version_of}
 use Rattle.cap_image.specs.Parts.{ImageObject, IsObject, Ascend, interval_of, space_end}
 use Rattle.cap_image.specs.Records.{piece, is_placed, is_name_length, record_at, Records, with_record, add_record, repeated}
 use Rattle.cap_image.specs.Writing.{field_bytes, name_bytes, object_record, object_bytes, header_bytes, version_number}
-use Rattle.cap_image.proofs.ReadBack.{behind, piece_is, number_is, field_len, behind_number, room}
+use Rattle.cap_image.proofs.ReadBackPlaces.{behind, piece_is, number_is, field_len, behind_number, room}
 
 -- ---- the header
 

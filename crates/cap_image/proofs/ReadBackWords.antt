@@ -15,7 +15,7 @@ use Rattle.cap_image.specs.Parts.{WordRecord, ImageObject, IsObject, IsWord, Fol
 use Rattle.cap_image.specs.Records.{piece, repeated}
 use Rattle.cap_image.specs.Words.{Words, no_words, with_word, word_in, is_listed, is_next, word_at, add_word, words_at, words_of, tag_count}
 use Rattle.cap_image.specs.Writing.{field_bytes, name_bytes, word_bytes, words_bytes}
-use Rattle.cap_image.proofs.ReadBack.{behind, piece_is, number_is, field_len, behind_number, room}
+use Rattle.cap_image.proofs.ReadBackPlaces.{behind, piece_is, number_is, field_len, behind_number, room}
 use Rattle.cap_image.proofs.TagCounts.{tags_counted, count_few}
 use Rattle.cap_image.proofs.TagLemmas.{bytes_tagged}
 
