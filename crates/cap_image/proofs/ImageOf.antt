@@ -65,7 +65,7 @@ at_bit m at (suc n) i lt = ⊎_elim
     (cases_lt i n)
 
 -- a memory's tag bytes have its tags
-tags_of : (m : TaggedMemory) (k : ℕ) → length m.bytes % 4096 ≡ 0 → 16 * k < length m.bytes → has_tag (first_tag_bytes m (length m.bytes / 128)) (16 * k) ≡ is_tagged m (m.base + 16 * k)
+pub tags_of : (m : TaggedMemory) (k : ℕ) → length m.bytes % 4096 ≡ 0 → 16 * k < length m.bytes → has_tag (first_tag_bytes m (length m.bytes / 128)) (16 * k) ≡ is_tagged m (m.base + 16 * k)
 unfolding first_tag_bytes
 tags_of m k pages lt =
     let j = 16 * k / 128 in

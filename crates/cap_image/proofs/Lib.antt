@@ -16,3 +16,10 @@ pub mod ImageOf
 pub mod FieldBytes
 pub mod Passed
 pub mod ReadBack
+pub mod ReadBackPlaces
+pub mod ReadBackWords
+pub mod ReadBackRecords
+pub mod ReadBackBodies
+pub mod ReadBackImage
+pub mod MadeImages
+pub mod SoundMemories

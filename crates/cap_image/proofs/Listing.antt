@@ -84,7 +84,7 @@ module _ (bytes : List ℕ) (count : ℕ) (of : ObjectRecord) (tags : List ℕ) 
 pub all_more : {X : Type 0} (P : X → Type 0) (xs ys : List X) (y : X) → ys ≡ xs ++ y ∷ [] → All P xs → P y → All P ys
 all_more P xs ys y e h is = subst (All P) (sym e) (All-push P xs y h is)
 
-pairs_of_map : {X Y : Type 0} (R : Y → Y → Type 0) (f : X → Y) (xs : List X) → AllPairs (λ u v. R (f u) (f v)) xs → AllPairs R (map f xs)
+pub pairs_of_map : {X Y : Type 0} (R : Y → Y → Type 0) (f : X → Y) (xs : List X) → AllPairs (λ u v. R (f u) (f v)) xs → AllPairs R (map f xs)
 pairs_of_map R f [] h = λ i j d less lt. absurd (omega (arith, lt))
 pairs_of_map R f (x ∷ xs) h =
     AllPairs-cons R (f x) (map f xs) (All-map (R (f x)) f xs (λ k d lt. h zero (suc k) d (omega arith) (omega (arith, lt)))) (pairs_of_map R f xs (λ i j d less lt. h (suc i) (suc j) d (omega (arith, less)) (omega (arith, lt))))

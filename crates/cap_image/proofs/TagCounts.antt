@@ -12,7 +12,7 @@ use Rattle.cap_image.specs.Parts.{ImageObject, IsObject, has_tag, tagged_below, 
 use Rattle.cap_image.specs.Words.{count_below, tag_count}
 use Rattle.cap_image.proofs.TagLemmas.{one_more, tagged_none, granules_tagged}
 
-one_counted : (tags : List ℕ) (n : ℕ) → count_below tags (n + 1) ≡ count_below tags n + cond (has_tag tags (16 * n)) 1 0
+pub one_counted : (tags : List ℕ) (n : ℕ) → count_below tags (n + 1) ≡ count_below tags n + cond (has_tag tags (16 * n)) 1 0
 one_counted tags n = sum_by-map-range_with_len_more (λ y. cond (has_tag tags y) 1 0) (λ i. 16 * i) 0 n n (omega arith)
 
 bit_value : (x : ℕ) → x < 2 → cond (x == 1) 1 0 ≡ x

@@ -12,3 +12,4 @@ pub mod WalkFields
 pub mod MemoryParts
 pub mod ImageLaws
 pub mod Accepted
+pub mod ReadBack

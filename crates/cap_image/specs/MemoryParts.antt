@@ -1,6 +1,7 @@
 -- The parts of an image by the memories that they are written from.
 use Rattle.std.specs.Prelude.{ℕ, Bool, List, ◌++◌, length, take, flat_map, All, ◌≤◌, ◌+◌, ◌^◌}
 use Rattle.std.specs.List.{zip}
+use Rattle.cap_mem.specs.IsMemory.{IsMemory}
 use Rattle.cap_mem.specs.Tagged.{TaggedMemory}
 use Rattle.cap_image.specs.declared.header.Version.TheVariants.{Two}
 use Rattle.cap_image.specs.declared.word_walk.FoundWord.{FoundWord}
@@ -28,6 +29,10 @@ founds_bytes symbols founds = flat_map (λ f. word_bytes (record_found symbols f
 -- the memory ends within 64 bits
 pub record EndsLow (memory : TaggedMemory) : Type 0 where
   pub end : memory.base + length memory.bytes ≤ 2 ^ 64
+
+-- the words of the first n memories are those of tagged memories
+pub record AreSound (memories : List TaggedMemory) (n : ℕ) : Type 0 where
+  pub each : All IsMemory (take n memories)
 
 -- the record of a memory, with its name
 unfoldable pub record_for : (List ℕ × Bool) × TaggedMemory → List ℕ

@@ -5,7 +5,8 @@
 //! there is made from. `write` makes the image of memories, in version 2. `read` accepts exactly the files of the two
 //! versions, and says of any other which check fails first. `report` prints what `purecap show` shows: a line for each
 //! object, a line for each tagged word, by the decoding of `cap_conc` and by its word record, and how many there were of
-//! both. `image_laws` says that the tags and the word records of a written image are those of its memories.
+//! both. `image_laws` says that the tags and the word records of a written image are those of its memories, and
+//! `reading_laws` that `read` gives back exactly what `write` made.
 //!
 //! The hard part is size. An image has up to 2^26 bytes of memory, and its word records may be longer than that, so
 //! `Image` keeps the file as it came, and of each object and word record only where its parts stand. Word records stand
@@ -22,6 +23,7 @@ mod entries;
 mod header;
 mod image;
 mod laws;
+mod laws_of_reading;
 mod lines;
 mod records;
 mod reporting;
@@ -36,6 +38,7 @@ pub use entries::entries_of;
 pub use header::Version;
 pub use image::{Image, read};
 pub use laws::image_laws;
+pub use laws_of_reading::reading_laws;
 pub use reporting::report;
 pub use tags::has_tag;
 pub use words::WordNote;

@@ -234,7 +234,8 @@ fn push_body(text: &mut Vec<u8>, symbols: &[NameList], memory: &Memory) -> Resul
     requires short { All AreShort symbols.now }
     requires end { memory.now.base + length memory.now.bytes ≤ 2 ^ 64 }
     requires writable { IsWritable symbols.now memory.now }
-    ensures { OnOk result (text.new.items ≡ text.old.items ++ body_for symbols.now memory.now) }
+    ensures value { OnOk result (text.new.items ≡ text.old.items ++ body_for symbols.now memory.now) }
+    ensures sound { OnOk result (IsMemory memory.now) }
 {
     push_bytes(text, memory)?;
     push_tags(text, memory)?;
@@ -256,7 +257,7 @@ fn push_objects(text: &mut Vec<u8>, names: &NameList, memories: &[Memory]) -> Re
 }
 
 /// Appends what stands of each memory behind all records.
-#[tactic(auto, using(crate::proofs::MemoryBytes::bodies_none, crate::proofs::MemoryBytes::bodies_more))]
+#[tactic(auto, using(crate::proofs::MemoryBytes::bodies_none, crate::proofs::SoundMemories::none_sound))]
 fn push_bodies(
     text: &mut Vec<u8>,
     symbols: &[NameList],
@@ -266,7 +267,8 @@ fn push_bodies(
     requires short { All AreShort symbols.now }
     requires end { All EndsLow memories.now }
     requires writable { All (IsWritable symbols.now) memories.now }
-    ensures { OnOk result (text.new.items ≡ text.old.items ++ bodies_below symbols.now memories.now (length memories.now)) }
+    ensures value { OnOk result (text.new.items ≡ text.old.items ++ bodies_below symbols.now memories.now (length memories.now)) }
+    ensures sound { OnOk result (All IsMemory memories.now) }
 {
     for memory in memories {
         push_body(text, symbols, memory)?;
@@ -276,7 +278,8 @@ fn push_bodies(
 
 /// Writes the image of memories, of version 2: each with its name, and with the names of its symbols by their indices.
 /// The records of a memory's words go by the owner of the word's capability, and those of one owner in the order of
-/// their stores; each names the symbol that the word's note says, of the owner's symbols.
+/// their stores; each names the symbol that the word's note says, of the owner's symbols. Where the image is made, the
+/// words of each memory are those of a tagged memory, which `reading_laws` asks for.
 ///
 /// `NoMemory` comes where the machine refuses memory for the image.
 #[tactic(auto, using(crate::proofs::MemoryBytes::image_is, crate::proofs::MemoryBytes::ends_low))]
@@ -287,7 +290,8 @@ pub fn write(
     memories: &[Memory],
 ) -> Result<Vec<u8>, NoMemory>
     requires { CanBeWritten names.now symbols.now memories.now }
-    ensures { IfOk result (λ bytes. bytes.items ≡ image_bytes (image_of names.now symbols.now memories.now)) }
+    ensures value { IfOk result (λ bytes. bytes.items ≡ image_bytes (image_of names.now symbols.now memories.now)) }
+    ensures sound { OnOk result (All IsMemory memories.now) }
 {
     let size = image_size(names, symbols, memories).ok_or(NoMemory)?;
     let mut text = Vec::with_capacity(alloc, size)?;

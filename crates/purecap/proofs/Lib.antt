@@ -14,6 +14,7 @@ pub mod Said
 pub mod Outcomes
 pub mod Steps
 pub mod Written
+pub mod ReadBack
 pub mod Coming
 pub mod Ended
 pub mod LinkSteps
