@@ -13,3 +13,6 @@ pub mod Counts
 pub mod MemoryBytes
 pub mod Sizes
 pub mod ImageOf
+pub mod Holding
+pub mod GranuleList
+pub mod Tallies

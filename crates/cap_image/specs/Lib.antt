@@ -11,3 +11,5 @@ pub mod WordWalk
 pub mod WalkFields
 pub mod MemoryParts
 pub mod ImageLaws
+pub mod Granules
+pub mod GranuleLaws

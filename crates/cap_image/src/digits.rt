@@ -9,7 +9,7 @@ use itoa::Buffer;
 
 /// Appends the lowest digits of a number in base 16, as many as `digits`.
 #[tactic(auto, using(crate::proofs::Growing::no_digit, crate::proofs::Growing::last_digit))]
-pub(crate) fn push_hex(text: &mut Vec<u8>, number: u128, digits: u32) -> Result<(), NoMemory>
+pub fn push_hex(text: &mut Vec<u8>, number: u128, digits: u32) -> Result<(), NoMemory>
     ensures { OnOk result (text.new.items ≡ text.old.items ++ hex digits number) }
 {
     if digits > 0 {
@@ -17,6 +17,19 @@ pub(crate) fn push_hex(text: &mut Vec<u8>, number: u128, digits: u32) -> Result<
         text.push(glyph((number % 16) as u8))?;
     }
     Ok(())
+}
+
+/// Appends a number in base 16, with as many digits as `digits`, behind what it is called.
+pub fn push_number(
+    text: &mut Vec<u8>,
+    label: &[u8],
+    number: u128,
+    digits: u32,
+) -> Result<(), NoMemory>
+    ensures { OnOk result (text.new.items ≡ text.old.items ++ label.now ++ hex digits number) }
+{
+    text.extend_from_slice(label)?;
+    push_hex(text, number, digits)
 }
 
 fn glyph(digit: u8) -> u8
@@ -31,7 +44,7 @@ fn glyph(digit: u8) -> u8
 }
 
 /// Appends a number in base 10.
-pub(crate) fn push_decimal(text: &mut Vec<u8>, number: u64) -> Result<(), NoMemory>
+pub fn push_decimal(text: &mut Vec<u8>, number: u64) -> Result<(), NoMemory>
     ensures { OnOk result (text.new.items ≡ text.old.items ++ decimal number) }
 {
     let mut buffer = Buffer::new();

@@ -19,6 +19,7 @@
 mod bodies;
 mod digits;
 mod entries;
+mod granules;
 mod header;
 mod image;
 mod laws;
@@ -27,13 +28,17 @@ mod records;
 mod reporting;
 mod size;
 mod tags;
+mod word_lines;
 mod word_walk;
 mod words;
 mod writing;
 
+pub use digits::{push_decimal, push_hex, push_number};
+pub use granules::{count_tagged, granule_laws, tagged_in, word_at};
 pub use header::Version;
 pub use image::{Image, read};
 pub use laws::image_laws;
 pub use reporting::report;
+pub use word_lines::push_word_lines;
 pub use words::WordNote;
 pub use writing::write;

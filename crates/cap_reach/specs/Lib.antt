@@ -1,0 +1,4 @@
+pub mod Reach
+pub mod Ending
+pub mod Laws
+pub mod Report

@@ -1,0 +1,12 @@
+//! What can be loaded from one tagged word of an image, step by step.
+#![tactic(auto)]
+
+mod laws;
+mod reaching;
+mod reporting;
+mod slots;
+
+pub use laws::reach_laws;
+pub use reaching::{ReachRefusal, reach};
+pub use reporting::report;
+pub use slots::Slots;
