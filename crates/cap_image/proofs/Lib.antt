@@ -16,3 +16,5 @@ pub mod ImageOf
 pub mod Holding
 pub mod GranuleList
 pub mod Tallies
+pub mod Rising
+pub mod Runs

@@ -1,6 +1,7 @@
 //! The tagged granules of an image.
 
-ghost use Rattle.std.specs.Prelude.{◌≡◌, ◌+◌, ◌-◌, ◌<◌, ◌≤◌, All, IfOk, length, slice_index_or};
+ghost use Rattle.std.specs.Prelude.{◌≡◌, ◌↔◌, ℕ, ◌+◌, ◌-◌, ◌<◌, ◌≤◌, All, IfOk, length, slice_index, slice_index_or};
+ghost use Rattle.std.specs.List.Sorted.{IsStrictlyIncreasing};
 ghost use Rattle.cap_image.specs.Parts.{no_object, tagged_granules};
 ghost use Rattle.cap_image.specs.Report.{word_count, word_in as word_in_of, IsGranuleOf};
 ghost use Rattle.cap_image.specs.GranuleLaws.{GranulesAscend, GranulesAreFew, GranulesAreTagged, GranulesHaveObjects};
@@ -50,6 +51,15 @@ fn word_in(bytes: &[u8], at: usize) -> Word
         address: u64_in(bytes, at),
         meta: u64_in(bytes, at + 8),
     }
+}
+
+/// How many of ascending granules are below an address: so the others are those from that place on.
+pub fn granules_below(granules: &[u64], address: u64) -> usize
+    requires { IsStrictlyIncreasing granules.now }
+    ensures within { result ≤ length granules.now }
+    ensures each { (k : ℕ) → k < length granules.now → (address ≤ slice_index granules.now k) ↔ (result ≤ k) }
+{
+    granules.partition_point(|granule| *granule < address)
 }
 
 /// States what the list of all tagged granules of an image has. It computes nothing.

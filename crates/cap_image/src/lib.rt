@@ -34,10 +34,11 @@ mod words;
 mod writing;
 
 pub use digits::{push_decimal, push_hex, push_number};
-pub use granules::{count_tagged, granule_laws, tagged_in, word_at};
+pub use granules::{count_tagged, granule_laws, granules_below, tagged_in, word_at};
 pub use header::Version;
 pub use image::{Image, read};
 pub use laws::image_laws;
+pub use lines::{SENTRY, UNSEALED};
 pub use reporting::report;
 pub use word_lines::push_word_lines;
 pub use words::WordNote;

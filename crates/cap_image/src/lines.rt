@@ -14,10 +14,10 @@ use cap_base::NoMemory;
 use cap_conc::{Fields, Word, decode};
 
 /// The object type of a capability that isn't sealed.
-const UNSEALED: u32 = 262_143;
+pub const UNSEALED: u32 = 262_143;
 
 /// The object type of a sealed entry.
-const SENTRY: u32 = 262_142;
+pub const SENTRY: u32 = 262_142;
 
 /// Appends the line of object `i`.
 pub(crate) fn push_object_line(text: &mut Vec<u8>, image: &Image, i: u32) -> Result<(), NoMemory>

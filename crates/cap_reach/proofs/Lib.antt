@@ -1,0 +1,9 @@
+pub mod Rising
+pub mod Hops
+pub mod Finds
+pub mod Taken
+pub mod Paths
+pub mod Same
+pub mod Sought
+pub mod Placed
+pub mod Collected

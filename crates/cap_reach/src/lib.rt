@@ -2,9 +2,14 @@
 #![tactic(auto)]
 
 mod laws;
+mod loading;
+mod places;
 mod reaching;
 mod reporting;
+mod searching;
 mod slots;
+mod words;
+mod work;
 
 pub use laws::reach_laws;
 pub use reaching::{ReachRefusal, reach};
