@@ -1,5 +1,5 @@
 -- The tagged granules of an image.
-use Rattle.std.proofs.Common.{false, zero, suc, Some, ◌≡◌, ℕ, ◌+◌, ◌-◌, ◌*◌, ◌/◌, ◌%◌, ◌^◌, ◌<◌, ◌≤◌, ◌==◌, true, ⊎_elim, List, [], ◌∷◌, length, refl, sym, subst, arith, ap, ◌∙◌}
+use Rattle.std.proofs.Common.{false, zero, suc, Some, ◌≡◌, ℕ, ◌+◌, ◌-◌, ◌*◌, ◌/◌, ◌%◌, ◌<◌, ◌≤◌, ◌==◌, true, ⊎_elim, List, [], ◌∷◌, length, refl, sym, subst, arith, ap, ◌∙◌}
 use Rattle.std.specs.Prelude.{find, flat_map, slice_index_or, map, nat_le, nat_lt, All, Contains, unwrap_or}
 use Rattle.std.specs.List.{list_any, range_with_len}
 use Rattle.std.proofs.lemmas.Bool.Decides.{nat_tests}
@@ -9,7 +9,7 @@ use Rattle.std.proofs.lemmas.List.Kept.{AllPairs-from_increasing, IsStrictlyIncr
 use Rattle.std.proofs.lemmas.List.Elements.{All-contains, All-weaker, All-append, All-nil, All-head, All-tail, All-contains_itself, Contains-append_left, Contains-append_right, Contains-append_cases}
 use Rattle.cap_image.specs.Parts.{ImageObject, ImageParts, IsImage, IsObject, no_object, has_tag, is_tagged_in, tag_in, tagged_below, tagged_granules, Ascend, interval_of, space_start, space_end}
 use Rattle.cap_image.specs.Words.{count_below}
-use Rattle.cap_image.specs.Granules.{tagged_of, is_tagged_at, is_held, object_at}
+use Rattle.cap_image.specs.Granules.{is_tagged_at, is_held, object_at}
 use Rattle.cap_image.specs.GranuleLaws.{GranulesAscend, GranulesAreFew, GranulesAreTagged, GranulesHaveObjects}
 use Rattle.cap_image.proofs.TagCounts.{granules_counted, count_few}
 use Rattle.cap_image.proofs.Holding.{contains_filter, filter_contains, in_range, range_has, range_rises, Rises, rises_append, and_left, and_right, or_left, or_right, or_cases}

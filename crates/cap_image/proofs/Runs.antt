@@ -1,6 +1,6 @@
 -- The granules that stand in one object, among ascending ones.
-use Rattle.std.proofs.Common.{◌≡◌, ℕ, zero, suc, ◌+◌, ◌-◌, ◌%◌, ◌<◌, ◌≤◌, ◌↔◌, Bool, true, false, ◌||◌, ⊎_elim, List, [], ◌∷◌, ◌++◌, length, get_or, take, drop, refl, sym, ap, ◌∙◌, arith, subst, append-nil, append_assoc}
-use Rattle.std.specs.Prelude.{flat_map, map, All, slice_index, slice_index_or}
+use Rattle.std.proofs.Common.{◌≡◌, ℕ, suc, ◌+◌, ◌-◌, ◌%◌, ◌<◌, ◌≤◌, ◌↔◌, true, ⊎_elim, List, [], ◌∷◌, ◌++◌, length, get_or, take, drop, refl, sym, ap, ◌∙◌, arith, subst, append-nil, append_assoc}
+use Rattle.std.specs.Prelude.{flat_map, All, slice_index, slice_index_or}
 use Rattle.std.specs.List.{list_any}
 use Rattle.std.proofs.lemmas.Bool.{cases_lt}
 use Rattle.std.proofs.lemmas.List.{get_or-take, get_or-drop, get_or_default, length-take-le, length-drop, take_all}
@@ -8,9 +8,9 @@ use Rattle.std.proofs.Math.Seq.{take-add}
 use Rattle.std.proofs.lemmas.List.Elements.{All-head, All-tail}
 use Rattle.std.proofs.lemmas.List.Concat.{flat_map-cons}
 use Rattle.std.proofs.lemmas.Grind.{flat_map-append}
-use Rattle.cap_image.specs.Parts.{ImageObject, ImageParts, IsImage, IsObject, no_object, is_tagged_in, tag_in}
+use Rattle.cap_image.specs.Parts.{ImageObject, ImageParts, IsImage, IsObject, no_object, is_tagged_in}
 use Rattle.cap_image.specs.Report.{cap_line, IsGranuleOf}
-use Rattle.cap_image.specs.Granules.{is_tagged_at, object_at, word_line, word_lines}
+use Rattle.cap_image.specs.Granules.{is_tagged_at, word_line, word_lines}
 use Rattle.cap_image.proofs.GranuleList.{IsWithin, inside_one, tagged_parts, object_is, objects_apart}
 use Rattle.cap_image.proofs.Holding.{or_cases}
 

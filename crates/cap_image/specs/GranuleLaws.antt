@@ -1,5 +1,5 @@
 -- Laws of the tagged granules of an image.
-use Rattle.std.specs.Prelude.{◌≡◌, ◌↔◌, ℕ, ◌+◌, ◌^◌, ◌<◌, ◌≤◌, true, List, length, Contains, slice_index_or}
+use Rattle.std.specs.Prelude.{◌≡◌, ◌↔◌, ℕ, ◌^◌, ◌<◌, ◌≤◌, true, length, Contains, slice_index_or}
 use Rattle.std.specs.List.Sorted.{IsStrictlyIncreasing}
 use Rattle.cap_image.specs.Parts.{ImageParts, IsImage, no_object, tagged_granules}
 use Rattle.cap_image.specs.Granules.{tagged_of, is_tagged_at, object_at}

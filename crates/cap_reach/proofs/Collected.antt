@@ -1,6 +1,6 @@
 -- The words of an image are those that were collected, and all that is reached is tagged.
 use Rattle.std.proofs.Common.{◌≡◌, ℕ, ◌<◌, true, List, [], ◌∷◌, ◌++◌, length, map, refl, sym, ap, subst, ◌∙◌, arith}
-use Rattle.std.specs.Prelude.{flat_map, All, Contains, slice_index}
+use Rattle.std.specs.Prelude.{flat_map, Contains, slice_index}
 use Rattle.std.proofs.lemmas.List.{length-map, length-append}
 use Rattle.std.proofs.lemmas.List.Concat.{flat_map-cons}
 use Rattle.std.proofs.lemmas.List.Elements.{Contains-get_or, All-from_get_or}

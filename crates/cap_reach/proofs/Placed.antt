@@ -1,5 +1,5 @@
 -- What is reached by places and by granules is the same.
-use Rattle.std.proofs.Common.{◌≡◌, ℕ, zero, suc, ◌+◌, ◌<◌, ◌≤◌, Bool, true, ◌&&◌, ⊎_elim, List, [], ◌∷◌, length, get_or, refl, sym, ap, subst, ◌∙◌, arith}
+use Rattle.std.proofs.Common.{◌≡◌, ℕ, zero, suc, ◌+◌, ◌<◌, ◌≤◌, true, ⊎_elim, List, [], ◌∷◌, length, refl, sym, ap, subst, ◌∙◌, arith}
 use Rattle.std.specs.Prelude.{map, nat_le, Contains, slice_index, slice_index_or}
 use Rattle.std.specs.List.Sorted.{IsStrictlyIncreasing}
 use Rattle.std.proofs.lemmas.Bool.{cases_lt}
@@ -8,12 +8,11 @@ use Rattle.std.proofs.lemmas.List.{get_or-map, get_or_default, length-map}
 use Rattle.std.proofs.lemmas.List.Elements.{Contains-get_or}
 use Rattle.std.proofs.lemmas.List.Kept.{AllPairs-from_increasing}
 use Rattle.cap_conc.specs.declared.word.Word.{Word}
-use Rattle.cap_conc.specs.declared.word.Fields.{Fields}
 use Rattle.cap_conc.specs.Computed.{fields_of}
 use Rattle.cap_image.proofs.Holding.{and_left, and_right}
 use Rattle.cap_reach.specs.Reach.{PlacedWord, Reached, IsReach, granules_of, may_load, is_within, loads}
 use Rattle.cap_reach.specs.Reach.Reached.{at_start, by_load}
-use Rattle.cap_reach.specs.Places.{Gives, LoadsAt, ReachedAt, AreReachedAt, no_word}
+use Rattle.cap_reach.specs.Places.{Gives, ReachedAt, AreReachedAt, no_word}
 use Rattle.cap_reach.specs.Places.ReachedAt.{first_place, by_step}
 use Rattle.cap_reach.specs.Collecting.{placed}
 

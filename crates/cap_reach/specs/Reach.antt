@@ -1,5 +1,5 @@
 -- Which tagged words of an image can be loaded, step by step, from one of them.
-use Rattle.std.specs.Prelude.{◌≡◌, ◌↔◌, ℕ, ◌+◌, ◌-◌, Bool, true, ◌&&◌, ◌||◌, ◌==◌, nat_le, bit_and, List, map, flat_map, All, Contains}
+use Rattle.std.specs.Prelude.{◌≡◌, ◌↔◌, ℕ, ◌+◌, ◌-◌, Bool, true, ◌&&◌, ◌||◌, ◌==◌, nat_le, bit_and, List, map, flat_map, Contains}
 use Rattle.std.specs.List.Sorted.{IsStrictlyIncreasing}
 use Rattle.cap_conc.specs.declared.word.Word.{Word}
 use Rattle.cap_conc.specs.declared.word.Fields.{Fields}

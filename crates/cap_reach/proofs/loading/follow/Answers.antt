@@ -1,4 +1,4 @@
-use Rattle.std.proofs.Common.{◌<◌, ℕ, OnOk, length, subst}
+use Rattle.std.proofs.Common.{◌<◌, OnOk, length, subst}
 use Rattle.std.specs.Prelude.{slice_index}
 use Rattle.cap_conc.specs.declared.word.Fields.{Fields}
 use Rattle.cap_reach.specs.Places.{Gives}

@@ -1,4 +1,4 @@
-use Rattle.std.proofs.Common.{IsTrue, subst}
+use Rattle.std.proofs.Common.{IsTrue}
 use Rattle.cap_reach.proofs.Sought.{not_listed}
 use Rattle.cap_reach.proofs.places.place_of.Goals as goal
 

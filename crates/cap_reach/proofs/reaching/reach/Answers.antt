@@ -1,4 +1,4 @@
-use Rattle.std.proofs.Common.{◌≡◌, length, sym, ap, ◌∙◌}
+use Rattle.std.proofs.Common.{length, sym, ap, ◌∙◌}
 use Rattle.cap_reach.proofs.Collected.{as_many_words, slot_tagged, words_reached, all_tagged}
 use Rattle.cap_reach.proofs.reaching.reach.Goals as goal
 
