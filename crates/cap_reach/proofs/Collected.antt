@@ -7,12 +7,16 @@ use Rattle.std.proofs.lemmas.List.Elements.{Contains-get_or, All-from_get_or}
 use Rattle.cap_conc.specs.declared.word.Word.{Word}
 use Rattle.cap_image.specs.Parts.{ImageObject, ImageParts, IsImage, tagged_granules}
 use Rattle.cap_image.specs.Granules.{tagged_of, is_tagged_at}
-use Rattle.cap_image.specs.GranuleLaws.{GranulesAreTagged}
+use Rattle.cap_image.specs.GranuleLaws.{GranulesAreTagged, GranulesAscend}
 use Rattle.cap_reach.specs.Reach.{PlacedWord, Reached, IsReach, granules_of, words_in, words_of, placed_in}
 use Rattle.cap_reach.specs.Reach.Reached.{at_start, by_load}
+use Rattle.cap_reach.specs.Computed.{reach_of}
 use Rattle.cap_reach.specs.Ending.{AreTagged}
 use Rattle.cap_reach.specs.Collecting.{word_in_object, raw_words_in, raw_words_of, placed}
 use Rattle.cap_reach.proofs.Placed.{placed_granules}
+use Rattle.cap_reach.proofs.Same.{one_reach}
+use Rattle.cap_reach.proofs.Steps.{reach_computed}
+use Rattle.std.specs.List.Sorted.{IsStrictlyIncreasing}
 
 placed_append : (gs hs : List ℕ) (vs ws : List Word) → length vs ≡ length gs → placed (gs ++ hs) (vs ++ ws) ≡ placed gs vs ++ placed hs ws
 placed_append [] hs [] ws n = refl
@@ -70,3 +74,10 @@ words_reached image gs hs ws start slot slots g h w at are =
     let words : placed hs ws ≡ words_of image = ap (λ (xs : List ℕ). placed xs ws) h ∙ ap (placed (tagged_of image)) w ∙ words_placed image in
     let first : slice_index hs start ≡ slot = ap (λ (xs : List ℕ). slice_index xs start) (h ∙ sym g) ∙ at in
     subst (λ (s : ℕ). IsReach (words_of image) s slots) first (subst (λ (xs : List PlacedWord). IsReach xs (slice_index hs start) slots) words are)
+
+-- what is reached is what is computed
+pub reach_is : (image : ImageParts) (slot : ℕ) (slots : List ℕ) → GranulesAreTagged → GranulesAscend → IsImage image → is_tagged_at image slot ≡ true → IsReach (words_of image) slot slots → slots ≡ reach_of (words_of image) slot
+reach_is image slot slots law ascend is first are =
+    let same = sym (granules_are image) in
+    one_reach (words_of image) slot slots (reach_of (words_of image) slot) are
+    (reach_computed (words_of image) slot (subst IsStrictlyIncreasing same (ascend image is)) (subst (λ (xs : List ℕ). Contains xs slot) same ((law image slot is).1 first)))

@@ -5,5 +5,7 @@ pub mod Taken
 pub mod Paths
 pub mod Same
 pub mod Sought
+pub mod Steps
+pub mod Rows
 pub mod Placed
 pub mod Collected

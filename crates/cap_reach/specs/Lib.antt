@@ -1,4 +1,5 @@
 pub mod Reach
+pub mod Computed
 pub mod Ending
 pub mod Laws
 pub mod Report

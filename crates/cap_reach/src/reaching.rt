@@ -2,7 +2,8 @@
 
 ghost use Rattle.std.specs.Prelude.{◌≡◌, ◌<◌, ◌^◌, IfOk, length, slice_index};
 ghost use Rattle.std.specs.List.Sorted.{IsStrictlyIncreasing};
-ghost use Rattle.cap_reach.specs.Reach.{IsReach};
+ghost use Rattle.cap_reach.specs.Reach.{IsReach, words_of};
+ghost use Rattle.cap_reach.specs.Computed.{reach_of};
 ghost use Rattle.cap_reach.specs.Collecting.{placed};
 ghost use Rattle.cap_reach.specs.Ending.{AreTagged, Reaches};
 
@@ -56,6 +57,7 @@ fn slots_reached(
 /// ascending order. `NoMemory` may come in place of any answer.
 pub fn reach(alloc: Global, image: &Image, slot: u64) -> Result<Slots, ReachRefusal>
     ensures reach { Reaches image.now slot result }
+    ensures value { IfOk result (λ slots. slots ≡ reach_of (words_of image.now) slot) }
     ensures tagged { IfOk result (AreTagged image.now) }
 {
     granule_laws();

@@ -1,5 +1,5 @@
 use Rattle.std.proofs.Common.{length, sym, ap, ◌∙◌}
-use Rattle.cap_reach.proofs.Collected.{as_many_words, slot_tagged, words_reached, all_tagged}
+use Rattle.cap_reach.proofs.Collected.{as_many_words, slot_tagged, words_reached, all_tagged, reach_is}
 use Rattle.cap_reach.proofs.reaching.reach.Goals as goal
 
 pub slots_reached-requires-clause-as_many : goal.slots_reached-requires-clause-as_many
@@ -16,3 +16,8 @@ returns-in-Some-clause-reach c = (
 pub returns-in-Some-clause-tagged : goal.returns-in-Some-clause-tagged
 returns-in-Some-clause-tagged c =
     all_tagged c.args.image.now c.args.slot _ c.granule_laws.ensures.tagged c.tagged_words.ensures.sound (returns-in-Some-clause-reach c).0 (returns-in-Some-clause-reach c).1
+
+pub returns-in-Some-clause-value : goal.returns-in-Some-clause-value
+returns-in-Some-clause-value c =
+    let found = returns-in-Some-clause-reach c in
+    reach_is c.args.image.now c.args.slot _ c.granule_laws.ensures.tagged c.granule_laws.ensures.ascend c.tagged_words.ensures.sound found.0 found.1
