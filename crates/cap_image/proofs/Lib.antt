@@ -23,3 +23,8 @@ pub mod ReadBackBodies
 pub mod ReadBackImage
 pub mod MadeImages
 pub mod SoundMemories
+pub mod Holding
+pub mod GranuleList
+pub mod Tallies
+pub mod Rising
+pub mod Runs

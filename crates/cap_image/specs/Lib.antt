@@ -13,3 +13,5 @@ pub mod MemoryParts
 pub mod ImageLaws
 pub mod Accepted
 pub mod ReadBack
+pub mod Granules
+pub mod GranuleLaws

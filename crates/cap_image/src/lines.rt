@@ -1,22 +1,23 @@
 //! The lines of a report.
 
-ghost use Rattle.std.specs.Prelude.{◌≡◌, ◌++◌, ◌+◌, ◌-◌, ◌<◌, ◌≤◌, OnOk, Some, length, slice_index_or};
+ghost use Rattle.std.specs.Prelude.{◌≡◌, ◌++◌, ◌<◌, OnOk, Some, length, slice_index_or};
 ghost use Rattle.cap_conc.specs.Computed.{fields_of};
 ghost use Rattle.cap_image.specs.Parts.{no_object, no_word};
-ghost use Rattle.cap_image.specs.Report.{object_line, cap_line, fields_text, seal_text, flag_text as flag_text_of, last_line, name_text as name_text_of, record_text, source_text, word_in as word_in_of, IsGranuleOf};
+ghost use Rattle.cap_image.specs.Report.{object_line, cap_line, fields_text, seal_text, flag_text as flag_text_of, last_line, name_text as name_text_of, record_text, source_text, IsGranuleOf};
 ghost use Rattle.cap_image.specs.Entries.{numbered, IsNumber, AreEntries};
 
 use crate::digits::{push_decimal, push_number};
 use crate::entries::entry_of;
+use crate::granules::word_at;
 use crate::image::Image;
-use cap_base::{NoMemory, u64_in};
+use cap_base::NoMemory;
 use cap_conc::{Fields, Word, decode};
 
 /// The object type of a capability that isn't sealed.
-const UNSEALED: u32 = 262_143;
+pub const UNSEALED: u32 = 262_143;
 
 /// The object type of a sealed entry.
-const SENTRY: u32 = 262_142;
+pub const SENTRY: u32 = 262_142;
 
 /// Appends the line of object `i`.
 pub(crate) fn push_object_line(text: &mut Vec<u8>, image: &Image, i: u32) -> Result<(), NoMemory>
@@ -114,25 +115,6 @@ pub(crate) fn push_last_line(text: &mut Vec<u8>, objects: u32, words: usize) -> 
     push_decimal(text, words as u64)?;
     text.extend_from_slice(b"\n")?;
     Ok(())
-}
-
-/// The word of a granule of object `i`.
-fn word_at(image: &Image, i: u32, granule: u64) -> Word
-    requires object { i < length image.now.objects }
-    requires granule { IsGranuleOf (slice_index_or image.now.objects i no_object) granule }
-    ensures { result ≡ word_in_of (slice_index_or image.now.objects i no_object).bytes (granule - (slice_index_or image.now.objects i no_object).base) }
-{
-    word_in(image.bytes(i), (granule - image.base(i)) as usize)
-}
-
-fn word_in(bytes: &[u8], at: usize) -> Word
-    requires { at + 16 ≤ length bytes.now }
-    ensures { result ≡ word_in_of bytes.now at }
-{
-    Word {
-        address: u64_in(bytes, at),
-        meta: u64_in(bytes, at + 8),
-    }
 }
 
 fn push_word(text: &mut Vec<u8>, word: Word) -> Result<(), NoMemory>

@@ -6,9 +6,9 @@ ghost use Rattle.cap_image.specs.Report.{cap_line, cap_lines, report_of, IsGranu
 ghost use Rattle.cap_image.specs.Entries.{AreEntries};
 
 use crate::entries::entries_of;
+use crate::granules::tagged_in;
 use crate::image::Image;
 use crate::lines::{push_cap_line, push_last_line, push_object_line};
-use crate::tags::tagged;
 use cap_base::NoMemory;
 use std::alloc::Global;
 
@@ -50,7 +50,7 @@ fn push_cap_lines(
 
 /// Appends the lines of granules of object `i`.
 #[tactic(auto, using(crate::proofs::Growing::flat_map_more))]
-fn push_lines(
+pub(crate) fn push_lines(
     text: &mut Vec<u8>,
     image: &Image,
     i: u32,
@@ -67,14 +67,4 @@ fn push_lines(
         push_cap_line(text, image, i, entries, *granule)?;
     }
     Ok(())
-}
-
-/// The tagged granules of object `i`.
-#[tactic(auto, using(crate::proofs::TagLemmas::bytes_tagged, crate::proofs::TagLemmas::granules_tagged))]
-fn tagged_in(alloc: Global, image: &Image, i: u32) -> Result<Vec<u64>, NoMemory>
-    requires { i < length image.now.objects }
-    ensures value { IfOk result (λ granules. granules.items ≡ tagged_granules (slice_index_or image.now.objects i no_object)) }
-    ensures inside { IfOk result (λ granules. All (IsGranuleOf (slice_index_or image.now.objects i no_object)) granules.items) }
-{
-    tagged(alloc, image.base(i), image.tags(i))
 }

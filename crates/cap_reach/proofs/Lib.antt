@@ -1,0 +1,11 @@
+pub mod Rising
+pub mod Hops
+pub mod Finds
+pub mod Taken
+pub mod Paths
+pub mod Same
+pub mod Sought
+pub mod Steps
+pub mod Rows
+pub mod Placed
+pub mod Collected

@@ -1,0 +1,9 @@
+pub mod Reach
+pub mod Computed
+pub mod Ending
+pub mod Laws
+pub mod Report
+pub mod Jumps
+pub mod Work
+pub mod Places
+pub mod Collecting
