@@ -15,4 +15,4 @@ pub mod Sizes
 pub mod ImageOf
 pub mod FieldBytes
 pub mod Passed
-pub mod ReadBack
+pub mod Accepted
