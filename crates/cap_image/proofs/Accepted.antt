@@ -18,7 +18,7 @@ use Rattle.cap_image.specs.declared.header.Version.TheVariants.{One, Two}
 use Rattle.cap_image.specs.declared.header.Header.{Header}
 use Rattle.cap_image.specs.declared.records.ObjectRecord.{ObjectRecord}
 use Rattle.cap_image.specs.declared.words.WordPlace.{WordPlace}
-use Rattle.cap_image.specs.Parts.{WordRecord, ImageObject, ImageParts, space_end}
+use Rattle.cap_image.specs.Parts.{ImageParts, space_end}
 use Rattle.cap_image.specs.Header.{version_of, header_of}
 use Rattle.cap_image.specs.Records.{Records, IsRecord, piece, is_placed, is_name_length, record_at, add_record, with_record, no_records, records_of}
 use Rattle.cap_image.specs.Words.{Words, no_words, with_word, tag_count, is_next, word_at, add_word, words_at, words_of, word_in}
