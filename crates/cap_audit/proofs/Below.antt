@@ -1,5 +1,5 @@
 -- Lists of what there is below a number, and one more.
-use Rattle.std.proofs.Common.{◌≡◌, ℕ, zero, suc, ◌+◌, ◌<◌, Bool, true, false, cond, List, [], ◌∷◌, ◌++◌, length, take, get_or, Option, Some, None, refl, sym, ap, ◌∙◌, append_assoc, append-nil, arith}
+use Rattle.std.proofs.Common.{◌≡◌, ℕ, zero, suc, ◌+◌, ◌<◌, List, [], ◌∷◌, ◌++◌, length, take, get_or, Option, refl, sym, ap, ◌∙◌, append_assoc, append-nil, arith}
 use Rattle.std.specs.Prelude.{flat_map, filter_map}
 use Rattle.std.specs.List.{range_with_len, cons_option}
 use Rattle.std.proofs.lemmas.List.{take_more}
@@ -7,9 +7,7 @@ use Rattle.std.proofs.lemmas.List.Elements.{filter_map-append}
 use Rattle.std.proofs.lemmas.Grind.{flat_map-append}
 use Rattle.cap_image.specs.Parts.{ImageParts}
 use Rattle.cap_audit.specs.declared.finding.Finding.{Finding}
-use Rattle.cap_audit.specs.declared.finding.What.TheVariants.{Object}
 use Rattle.cap_audit.specs.Findings.{object_finding, objects_below, granule_findings, granules_below, order_finding, orders_below, object_at}
-use Rattle.cap_audit.specs.Alike.{is_same_object_at}
 use Rattle.cap_audit.specs.Report.{finding_line}
 
 range_more : (a n : ℕ) → range_with_len a (suc n) ≡ range_with_len a n ++ (a + n) ∷ []

@@ -1,18 +1,17 @@
 -- The findings of the first granules of an object, and of one or eight more.
-use Rattle.std.proofs.Common.{◌≡◌, ℕ, zero, suc, ◌+◌, ◌-◌, ◌*◌, ◌/◌, ◌%◌, ◌^◌, ◌<◌, ◌≤◌, min, Bool, true, false, ◌&&◌, ◌==◌, List, [], ◌∷◌, ◌++◌, length, take, drop, Option, Some, None, refl, sym, ap, ◌∙◌, append-nil, arith}
-use Rattle.std.specs.Prelude.{slice_index, bytes_eq, find, filter_map}
-use Rattle.std.specs.List.{cons_option, range_with_len}
+use Rattle.std.proofs.Common.{◌≡◌, ℕ, zero, suc, ◌+◌, ◌-◌, ◌*◌, ◌/◌, ◌%◌, ◌^◌, ◌<◌, ◌≤◌, Bool, true, false, ◌&&◌, ◌==◌, List, [], ◌∷◌, ◌++◌, length, take, drop, Option, Some, None, refl, sym, ap, ◌∙◌, append-nil, arith}
+use Rattle.std.specs.Prelude.{slice_index, bytes_eq}
+use Rattle.std.specs.List.{cons_option}
 use Rattle.std.proofs.Math.Nat.{zero-div}
 use Rattle.std.proofs.lemmas.Bool.{and_parts}
 use Rattle.std.proofs.lemmas.Bool.Decides.{Decides-eqb}
 use Rattle.std.proofs.lemmas.Slice.Eq.{bytes_eq-Decides}
 use Rattle.std.proofs.lemmas.List.{drop-drop, drop-take, take-take}
-use Rattle.cap_image.specs.Parts.{WordRecord, ImageObject, IsObject, has_tag}
+use Rattle.cap_image.specs.Parts.{ImageObject, IsObject, has_tag}
 use Rattle.cap_image.specs.Records.{piece}
-use Rattle.cap_audit.specs.declared.finding.Finding.{Finding}
 use Rattle.cap_audit.specs.declared.finding.What.{What}
 use Rattle.cap_audit.specs.Findings.{tag_of, bytes_of, record_of, is_same_source, what_differs, difference_at, finding_at, granule_finding, findings_below, granule_findings}
-use Rattle.cap_audit.specs.Alike.{AreAlike, are_same_eight}
+use Rattle.cap_audit.specs.Alike.{are_same_eight}
 use Rattle.cap_audit.proofs.Below.{filter_more}
 
 module _ (k : ℕ) (a b : ImageObject) where

@@ -1,6 +1,6 @@
 -- What the findings of versions and objects say.
-use Rattle.std.proofs.Common.{◌≡◌, ℕ, zero, suc, ◌+◌, ◌<◌, ◌≤◌, max, Bool, true, false, cond, not, ◌&&◌, ◌==◌, List, [], ◌∷◌, ◌++◌, length, get_or, Option, Some, None, refl, sym, ap, subst, ◌∙◌, ⊎_elim, arith}
-use Rattle.std.specs.Prelude.{flat_map, filter_map, slice_get, slice_index_or, bytes_eq, if◌then◌else◌}
+use Rattle.std.proofs.Common.{◌≡◌, ℕ, zero, suc, ◌+◌, ◌<◌, ◌≤◌, max, Bool, true, false, ◌&&◌, ◌==◌, List, [], ◌∷◌, ◌++◌, length, Option, Some, None, refl, sym, ap, ◌∙◌, ⊎_elim, arith}
+use Rattle.std.specs.Prelude.{flat_map, filter_map, slice_get, bytes_eq, if◌then◌else◌}
 use Rattle.std.specs.List.{range_with_len, cons_option}
 use Rattle.std.proofs.lemmas.Bool.{and_parts, cases_lt}
 use Rattle.std.proofs.lemmas.Bool.Decides.{Decides-eqb}
@@ -12,7 +12,7 @@ use Rattle.cap_image.specs.Parts.{ImageObject, ImageParts, no_object}
 use Rattle.cap_image.specs.Writing.{version_number}
 use Rattle.cap_audit.specs.declared.finding.Finding.{Finding}
 use Rattle.cap_audit.specs.declared.finding.What.TheVariants.{Version as Versions, Object}
-use Rattle.cap_audit.specs.Findings.{have_same_head, is_same_object, object_finding, objects_below, version_findings, head_findings, body_findings, or_else, object_at}
+use Rattle.cap_audit.specs.Findings.{have_same_head, is_same_object, object_finding, objects_below, version_findings, head_findings, or_else, object_at}
 use Rattle.cap_audit.specs.Alike.{AreAlike, HaveSameObjects, is_same_object_at}
 
 -- the findings of heads alone, where there is one, and of bodies where there is none

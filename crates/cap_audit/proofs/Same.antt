@@ -1,6 +1,6 @@
 -- What is the same has no findings, and what has none is the same.
-use Rattle.std.proofs.Common.{◌≡◌, ℕ, zero, suc, ◌+◌, ◌-◌, ◌*◌, ◌/◌, ◌%◌, ◌^◌, ◌<◌, ◌≤◌, max, Bool, true, false, not, ◌&&◌, ◌||◌, ◌==◌, List, [], ◌∷◌, ◌++◌, length, get_or, take, drop, Option, Some, None, Result, Ok, refl, sym, ap, subst, ◌∙◌, append-nil, arith}
-use Rattle.std.specs.Prelude.{flat_map, filter_map, slice_get, slice_index, slice_index_or, bytes_eq, if◌then◌else◌, All}
+use Rattle.std.proofs.Common.{◌≡◌, ℕ, zero, suc, ◌+◌, ◌*◌, ◌/◌, ◌%◌, ◌^◌, ◌<◌, max, Bool, true, false, ◌||◌, ◌==◌, List, [], ◌∷◌, ◌++◌, length, get_or, drop, Option, Some, None, Ok, refl, sym, ap, subst, ◌∙◌, append-nil, arith}
+use Rattle.std.specs.Prelude.{flat_map, filter_map, slice_get, slice_index, bytes_eq, if◌then◌else◌, All}
 use Rattle.std.specs.List.{cons_option, range_with_len}
 use Rattle.std.proofs.lemmas.Bool.{and_parts}
 use Rattle.std.proofs.lemmas.Bool.Decides.{Decides-eqb}
@@ -10,7 +10,7 @@ use Rattle.std.proofs.Math.Nat.{div-div-eq-div-mul}
 use Rattle.std.proofs.lemmas.Grind.{same_number_lists}
 use Rattle.std.proofs.lemmas.List.{get_or-take, get_or-drop, ext_get_or}
 use Rattle.cap_image.specs.declared.header.Version.{Version}
-use Rattle.cap_image.specs.Parts.{WordRecord, ImageObject, ImageParts, IsObject, no_object, has_tag}
+use Rattle.cap_image.specs.Parts.{WordRecord, ImageObject, ImageParts, no_object, has_tag}
 use Rattle.cap_image.specs.Records.{piece}
 use Rattle.cap_image.specs.Reading.{read_image}
 use Rattle.cap_image.specs.Writing.{version_number, image_bytes}
@@ -19,7 +19,7 @@ use Rattle.cap_audit.specs.declared.finding.Finding.{Finding}
 use Rattle.cap_audit.specs.declared.finding.What.{What}
 use Rattle.cap_audit.specs.declared.finding.What.TheVariants.{Object, Order, Version as Versions}
 use Rattle.cap_audit.specs.Findings.{have_same_head, is_same_object, object_finding, objects_below, version_findings, head_findings, tag_of, bytes_of, record_of, is_same_source, what_differs, difference_at, finding_at, granule_finding, findings_below, granule_findings, have_same_records, tell_of_records, order_finding, object_at, granules_below, orders_below, body_findings, or_else, findings}
-use Rattle.cap_audit.specs.Alike.{AreAlike, HaveSameObjects, is_same_object_at, have_same_memory}
+use Rattle.cap_audit.specs.Alike.{AreAlike, have_same_memory}
 use Rattle.cap_audit.specs.AuditLaws.{NoneWhereSame}
 use Rattle.cap_audit.proofs.Below.{granules_more, orders_more}
 use Rattle.cap_audit.proofs.Heads.{no_front, none_kept, flat_none, true_if, same_version, same_objects}

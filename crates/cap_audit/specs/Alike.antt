@@ -1,5 +1,5 @@
 -- Objects that are the same as far as they are compared.
-use Rattle.std.specs.Prelude.{◌≡◌, ℕ, ◌*◌, ◌<◌, Bool, ◌==◌, ◌&&◌, bytes_eq, List, length, slice_index, slice_get}
+use Rattle.std.specs.Prelude.{◌≡◌, ℕ, ◌*◌, ◌<◌, Bool, ◌==◌, ◌&&◌, bytes_eq, length, slice_index, slice_get}
 use Rattle.cap_image.specs.Parts.{ImageObject, ImageParts}
 use Rattle.cap_image.specs.Records.{piece}
 use Rattle.cap_audit.specs.Findings.{is_same_object, object_at}

@@ -28,3 +28,4 @@ pub mod GranuleList
 pub mod Tallies
 pub mod Rising
 pub mod Runs
+pub mod Accepted

@@ -1,5 +1,5 @@
 -- What an accepted file is: the bytes of its parts, and nothing else.
-use Rattle.std.specs.Prelude.{◌≡◌, ℕ, ◌+◌, ◌<◌, ◌≤◌, List, length, drop, take, slice_index, All, Ok}
+use Rattle.std.specs.Prelude.{◌≡◌, ℕ, ◌+◌, ◌<◌, ◌≤◌, List, length, slice_index, All, Ok}
 use Rattle.cap_base.specs.Field.{number_at}
 use Rattle.cap_image.specs.Parts.{ImageObject, ImageParts, IsObject}
 use Rattle.cap_image.specs.Records.{piece}

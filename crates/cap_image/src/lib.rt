@@ -5,8 +5,9 @@
 //! there is made from. `write` makes the image of memories, in version 2. `read` accepts exactly the files of the two
 //! versions, and says of any other which check fails first. `report` prints what `purecap show` shows: a line for each
 //! object, a line for each tagged word, by the decoding of `cap_conc` and by its word record, and how many there were of
-//! both. `image_laws` says that the tags and the word records of a written image are those of its memories, and
-//! `reading_laws` that `read` gives back exactly what `write` made.
+//! both. `image_laws` says that the tags and the word records of a written image are those of its memories, and that an
+//! accepted file has the bytes of its parts, so that two files with the same parts are the same; `reading_laws` that
+//! `read` gives back exactly what `write` made.
 //!
 //! The hard part is size. An image has up to 2^26 bytes of memory, and its word records may be longer than that, so
 //! `Image` keeps the file as it came, and of each object and word record only where its parts stand. Word records stand

@@ -1,6 +1,6 @@
 use Rattle.cap_image.proofs.ImageOf.{objects_are, tags_are, tags_read, words_are}
 use Rattle.cap_image.proofs.FieldBytes.{fields_are}
-use Rattle.cap_image.proofs.ReadBack.{accepted_written, accepted_objects}
+use Rattle.cap_image.proofs.Accepted.{accepted_written, accepted_objects}
 use Rattle.cap_image.proofs.laws.image_laws.Goals as goal
 
 pub returns-clause-objects : goal.returns-clause-objects

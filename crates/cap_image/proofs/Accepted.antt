@@ -1,6 +1,6 @@
 -- An accepted file is the bytes of its parts.
-use Rattle.std.proofs.Common.{◌≡◌, ℕ, zero, suc, ◌+◌, ◌-◌, ◌*◌, ◌/◌, ◌%◌, ◌^◌, ◌<◌, ◌≤◌, Bool, true, false, not, ◌&&◌, ◌==◌, List, [], ◌∷◌, ◌++◌, length, map, take, drop, Result, Ok, Err, refl, sym, ap, subst, ◌∙◌, get_or, append_assoc, append-nil, length-append, arith}
-use Rattle.std.specs.Prelude.{nat_le, nat_lt, IsTrue, All, flat_map, codes, bytes_eq, if◌then◌else◌}
+use Rattle.std.proofs.Common.{◌≡◌, ℕ, zero, suc, ◌+◌, ◌/◌, ◌%◌, ◌<◌, ◌≤◌, Bool, true, false, not, ◌&&◌, ◌==◌, List, [], ◌∷◌, ◌++◌, length, map, take, Ok, Err, refl, sym, ap, subst, ◌∙◌, get_or, append_assoc, append-nil, length-append, arith}
+use Rattle.std.specs.Prelude.{nat_le, nat_lt, All, flat_map, codes, bytes_eq, if◌then◌else◌}
 use Rattle.std.proofs.lemmas.Bool.{leb-true, ltb-false, not-false, and_parts}
 use Rattle.std.proofs.lemmas.Bool.Decides.{Decides-eqb}
 use Rattle.std.proofs.lemmas.Slice.Eq.{bytes_eq-Decides}
@@ -9,7 +9,7 @@ use Rattle.std.proofs.lemmas.List.Folds.{flat_map-map}
 use Rattle.std.proofs.lemmas.List.Elements.{All-push, All-map}
 use Rattle.std.proofs.lemmas.Grind.{flat_map-append}
 use Rattle.cap_base.specs.Field.{number_at}
-use Rattle.cap_base.specs.Steps.{◌>>=◌, ◌>>◌, refuse, steps, fault}
+use Rattle.cap_base.specs.Steps.{fault}
 use Rattle.cap_base.specs.Text.{is_plain}
 use Rattle.cap_base.specs.declared.refusal.Fault.{Fault}
 use Rattle.cap_base.specs.declared.check.Check.TheVariants as checks
@@ -18,9 +18,9 @@ use Rattle.cap_image.specs.declared.header.Version.TheVariants.{One, Two}
 use Rattle.cap_image.specs.declared.header.Header.{Header}
 use Rattle.cap_image.specs.declared.records.ObjectRecord.{ObjectRecord}
 use Rattle.cap_image.specs.declared.words.WordPlace.{WordPlace}
-use Rattle.cap_image.specs.Parts.{WordRecord, ImageObject, ImageParts, IsObject, space_end}
+use Rattle.cap_image.specs.Parts.{ImageParts, space_end}
 use Rattle.cap_image.specs.Header.{version_of, header_of}
-use Rattle.cap_image.specs.Records.{Records, IsRecord, piece, is_placed, is_name_length, record_at, add_record, with_record, no_records, records_of, repeated}
+use Rattle.cap_image.specs.Records.{Records, IsRecord, piece, is_placed, is_name_length, record_at, add_record, with_record, no_records, records_of}
 use Rattle.cap_image.specs.Words.{Words, no_words, with_word, tag_count, is_next, word_at, add_word, words_at, words_of, word_in}
 use Rattle.cap_image.specs.Bodies.{BodyParts, Bodies, tags_end, tags_at, body_at, add_body, bodies_of, object_in}
 use Rattle.cap_image.specs.Reading.{read_image, parts_in}
