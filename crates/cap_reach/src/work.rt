@@ -7,7 +7,7 @@ ghost use Rattle.cap_reach.specs.Work.{IsWork, Grows};
 
 use std::alloc::{AllocError, Global};
 
-// The bytes of a granule: it holds one word.
+/// The bytes of a granule: it holds one word.
 const GRANULE: u128 = 16;
 
 /// The places of a list that were found, in the order in which they were.
@@ -18,7 +18,7 @@ pub(crate) struct Work {
     pub(crate) found: Vec<u32>,
 }
 
-// The first place from here on that isn't taken, or the end. Each second place that it passes then leads twice as far.
+/// The first place from here on that isn't taken, or the end. Each second place that it passes then leads twice as far.
 fn first_free(next: &mut Vec<u32>, from: usize) -> usize
     requires jumps { AreJumps next.old.items }
     requires within { from ≤ length next.old.items }
@@ -73,7 +73,7 @@ pub(crate) fn find_one(work: &mut Work, at: usize) -> Result<(), AllocError>
     Ok(())
 }
 
-// The granule at a place ends at or below an address.
+/// Whether the granule at a place ends at or below an address.
 fn ends_within(granules: &[u64], at: usize, top: u128) -> bool
     ensures { IsTrue result ↔ ((at < length granules.now) × (slice_index granules.now at + 16 ≤ top)) }
 {
