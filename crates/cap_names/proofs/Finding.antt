@@ -1,5 +1,5 @@
 -- What a search among the keys of an index tells of the names.
-use Rattle.std.proofs.Common.{◌≡◌, ℕ, ◌+◌, ◌-◌, ◌/◌, ◌%◌, ◌^◌, ◌<◌, ◌≤◌, List, [], Bool, true, false, cond, ◌&&◌, Some, None, length, get_or, refl, sym, ap, subst, ◌∙◌, arith, eq-eqb, eqb-true}
+use Rattle.std.proofs.Common.{◌≡◌, ℕ, ◌+◌, ◌-◌, ◌/◌, ◌%◌, ◌^◌, ◌<◌, ◌≤◌, List, [], Bool, true, false, cond, ◌&&◌, Option, Some, None, length, get_or, refl, sym, ap, subst, ◌∙◌, arith, eq-eqb, eqb-true}
 use Rattle.std.specs.Prelude.{◌==◌, bytes_eq, nat_lt, position}
 use Rattle.std.proofs.lemmas.Bool.{false_from_ne_true, lt-ltb}
 use Rattle.std.proofs.lemmas.List.Sums.{position_or_len_is}
@@ -88,12 +88,12 @@ module _ (names : List Named) (keys : List ℕ) (index : IsIndexOf names keys) w
     found_past is = found_none (λ h. absurd (omega (arith, h, is)))
 
 -- of distinct names, the one that is found is the only one
-pub only_first : (names : List Named) (name : List ℕ) → AreDistinct names → IsOnly names name (first_defined names name)
-only_first names name distinct k here =
+pub only_first : (names : List Named) (name : List ℕ) (found : Option ℕ) → found ≡ first_defined names name → AreDistinct names → IsOnly names name found
+only_first names name found is distinct k here =
     let test : Named → Bool = λ p. p.1 && bytes_eq p.0 name in
     let second = both_true (is_defined_at names k) (bytes_eq (name_at names k) name) here in
     let inside = defined_inside names k second.0 in
-    position_is test names k ([], false) inside
+    is ∙ position_is test names k ([], false) inside
     (λ i less. false_from_ne_true _ (λ (t : matches names name i ≡ true).
     let first = both_true (is_defined_at names i) (bytes_eq (name_at names i) name) t in
     let same : name_at names i ≡ name_at names k = (bytes_eq-Decides (name_at names i) name).0 first.1 ∙ sym ((bytes_eq-Decides (name_at names k) name).0 second.1) in

@@ -2,7 +2,7 @@
 
 ghost use Rattle.std.specs.Prelude.{◌≡◌, ◌<◌, ◌^◌, length, IfOk};
 ghost use Rattle.cap_names.specs.Hash.{hash_by};
-ghost use Rattle.cap_names.specs.Named.{hashed_names, first_defined, is_repeated, IsLeast};
+ghost use Rattle.cap_names.specs.Named.{hashed_names, first_defined, is_repeated, AreDistinct, IsOnly, IsLeast};
 
 use crate::hashing::{NameHash, spread};
 use crate::keys::keys_of;
@@ -58,11 +58,12 @@ impl NameIndex {
     }
 
     /// The least index that is defined and has this name, whose hash by the rule is given; none exactly where there is
-    /// none. It takes no memory.
-    #[tactic(auto, using(crate::proofs::Finding::has_hash))]
+    /// none. Where defined names are distinct, it is the only one. It takes no memory.
+    #[tactic(auto, using(crate::proofs::Finding::has_hash, crate::proofs::Finding::only_first))]
     pub fn find(&self, hash: u32, name: &[u8]) -> Option<u32>
         requires { hash ≡ hash_by self.now.rule name.now }
-        ensures { result ≡ first_defined self.now.names name.now }
+        ensures first { result ≡ first_defined self.now.names name.now }
+        ensures only { AreDistinct self.now.names → IsOnly self.now.names name.now result }
     {
         let hash = spread(hash);
         let guess = self.starts.guess(hash);
