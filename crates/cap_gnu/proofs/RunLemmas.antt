@@ -7,7 +7,7 @@ use Rattle.std.proofs.lemmas.Bool.{cases_Bool, cases_lt, cases_eq, lt-ltb, ltb-t
 use Rattle.std.proofs.lemmas.List.{drop_more, drop_all, length-drop, get_or_past, get_or-set_same, get_or-set_other}
 use Rattle.std.proofs.lemmas.List.Sums.{position_or_len_is}
 use Rattle.std.proofs.lemmas.List.FromFn.{length-range_with_len, get_or-range_with_len}
-use Rattle.cap_gnu.specs.Adopted.{run_length, run_at, has, passed}
+use Rattle.cap_gnu.specs.Adopted.{run_length, place_of}
 use Rattle.cap_gnu.specs.Lengths.{length_with, AreLengthsFrom}
 
 abbrev odd : ℕ → Bool
@@ -90,6 +90,9 @@ module _ (words old : List ℕ) (k next : ℕ) (inside : k < length words) (late
         | inr other ↦ get_or-set_other old k j (length_with word next) 0 other ∙ later j (omega (arith, h, other))
       ]
 
+pub run_long : (first n : ℕ) → length (range_with_len first n) ≡ n
+run_long first n = length-range_with_len first n
+
 -- an index among those from one on
 module _ (first n i : ℕ) where
   abbrev is_it : ℕ → Bool
@@ -100,41 +103,28 @@ module _ (first n i : ℕ) where
 
   place : first ≤ i → i - first < n → position_or_len is_it run ≡ i - first
   place low high =
-      position_or_len_is is_it run (i - first) 0 (omega (arith, high, length-range_with_len first n))
+      position_or_len_is is_it run (i - first) 0 (omega (arith, high, run_long first n))
       (λ k h. let at : get_or run k 0 ≡ first + k = get_or-range_with_len first n k 0 (omega (arith, h, high)) in ap is_it at ∙ (let no : (first + k == i) ≡ false = grind (arith, h) in no))
       (λ _. let at : get_or run (i - first) 0 ≡ first + (i - first) = get_or-range_with_len first n (i - first) 0 high in ap is_it at ∙ (let yes : (first + (i - first) == i) ≡ true = grind (arith, low) in yes))
 
   no_place : (first ≤ i → n ≤ i - first) → position_or_len is_it run ≡ n
   no_place out =
-      position_or_len_is is_it run n 0 (omega (arith, length-range_with_len first n))
+      position_or_len_is is_it run n 0 (omega (arith, run_long first n))
       (λ k h. let at : get_or run k 0 ≡ first + k = get_or-range_with_len first n k 0 h in ap is_it at ∙ (let no : (first + k == i) ≡ false = grind (arith, h, out) in no))
-      (λ h. absurd (omega (arith, h, length-range_with_len first n)))
+      (λ h. absurd (omega (arith, h, run_long first n)))
 
-  pub passed_to : first ≤ i → i - first < n → passed run (Some i) ≡ i - first + 1
-  passed_to low high =
-      let inside : nat_lt (i - first) (length run) ≡ true = lt-ltb _ _ (omega (arith, high, length-range_with_len first n)) in
-      ap (λ (p : ℕ). option_map_or (λ k. k + 1) (cond (nat_lt p (length run)) (Some p) None) (length run)) (place low high)
-      ∙ ap (λ (b : Bool). option_map_or (λ k. k + 1) (cond b (Some (i - first)) None) (length run)) inside
+  pub place_here : first ≤ i → i - first < n → place_of i run ≡ Some (i - first)
+  place_here low high =
+      let inside : nat_lt (i - first) (length run) ≡ true = lt-ltb _ _ (omega (arith, high, run_long first n)) in
+      ap (λ (p : ℕ). cond (nat_lt p (length run)) (Some p) None) (place low high) ∙ ap (λ (b : Bool). cond b (Some (i - first)) None) inside
 
-  pub passed_other : (first ≤ i → n ≤ i - first) → passed run (Some i) ≡ n
-  passed_other out =
-      let outside : nat_lt n (length run) ≡ false = false_from_ne_true _ (λ (h : nat_lt n (length run) ≡ true). absurd (omega (arith, ltb-true _ _ h, length-range_with_len first n))) in
-      ap (λ (p : ℕ). option_map_or (λ k. k + 1) (cond (nat_lt p (length run)) (Some p) None) (length run)) (no_place out)
-      ∙ ap (λ (b : Bool). option_map_or (λ k. k + 1) (cond b (Some n) None) (length run)) outside
-      ∙ length-range_with_len first n
+  nowhere : (first ≤ i → n ≤ i - first) → place_of i run ≡ None
+  nowhere out =
+      let outside : nat_lt n (length run) ≡ false = false_from_ne_true _ (λ (h : nat_lt n (length run) ≡ true). absurd (omega (arith, ltb-true _ _ h, run_long first n))) in
+      ap (λ (p : ℕ). cond (nat_lt p (length run)) (Some p) None) (no_place out) ∙ ap (λ (b : Bool). cond b (Some n) None) outside
 
-pub passed_all : (first n : ℕ) → passed (range_with_len first n) None ≡ n
-passed_all first n = length-range_with_len first n
+  pub place_before : i < first → place_of i run ≡ None
+  place_before low = nowhere (λ h. absurd (omega (arith, low, h)))
 
-pub has_range : (n first i : ℕ) → has i (range_with_len first n) ≡ (nat_le first i && nat_lt (i - first) n)
-has_range zero first i = let no : false ≡ (nat_le first i && nat_lt (i - first) 0) = grind arith in no
-has_range (suc n) first i =
-    elim (cases_eq first i) [
-      | inl same ↦
-          let yes : (first == i) ≡ true = eq-eqb first i same in
-          ap (λ (b : Bool). b || has i (range_with_len (first + 1) n)) yes ∙ (let all : true ≡ (nat_le first i && nat_lt (i - first) (suc n)) = grind (arith, same) in all)
-      | inr other ↦
-          let no : (first == i) ≡ false = grind (arith, other) in
-          ap (λ (b : Bool). b || has i (range_with_len (first + 1) n)) no ∙ has_range n (first + 1) i
-          ∙ (let step : (nat_le (first + 1) i && nat_lt (i - (first + 1)) n) ≡ (nat_le first i && nat_lt (i - first) (suc n)) = grind (arith, other) in step)
-    ]
+  pub place_behind : first ≤ i → n ≤ i - first → place_of i run ≡ None
+  place_behind low high = nowhere (λ _. high)

@@ -5,8 +5,8 @@
 -- on. A bucket's word is the first index of its run, or 0. An index's word has the upper 31 bits of its name's hash, and is
 -- odd at the end of a run.
 use Rattle.std.specs.Prelude.{◌≡◌, ℕ, ◌+◌, ◌-◌, ◌*◌, ◌/◌, ◌%◌, ◌^◌, ◌<◌, ◌≤◌, ◌==◌, nat_lt, nat_le, Bool, true, false, not, ◌&&◌, ◌||◌, if◌then◌else◌, List, [], length, drop, slice_range, slice_index, position, Option, Result, Ok, Err}
-use Rattle.std.specs.List.{list_all, list_any, enumerate_from, range_with_len}
-use Rattle.std.specs.Option.{option_map_or}
+use Rattle.std.specs.List.{list_all, enumerate_from, range_with_len}
+use Rattle.std.specs.Option.{option_map_or, is_some}
 use Rattle.cap_names.specs.Hash.{gnu_hash_of}
 use Rattle.cap_names.specs.Named.{Named, first_defined}
 use Rattle.cap_gnu.specs.declared.adopting.GnuRefusal.{GnuRefusal}
@@ -58,9 +58,9 @@ run_of words hash = run_at words (slice_index (bucket_words words) (hash % bucke
 abbrev pub is_run : List ℕ → ℕ → Bool
 is_run words w = w == 0 || nat_le (first_index words) w && nat_lt 0 (length_from words w)
 
--- the number is among these
-abbrev pub has : ℕ → List ℕ → Bool
-has x xs = list_any (λ y. y == x) xs
+-- the place of an index in a run; none where it isn't in it
+abbrev pub place_of : ℕ → List ℕ → Option ℕ
+place_of i run = position (λ j. j == i) run
 
 -- the index's word has the upper 31 bits of a hash
 abbrev pub has_hash : List ℕ → ℕ → ℕ → Bool
@@ -68,7 +68,7 @@ has_hash words i hash = slice_index (index_words words) (i - first_index words) 
 
 -- a name that is defined has its index in the run of its bucket, and its index's word has its hash
 abbrev pub is_held : List ℕ → ℕ × Named → Bool
-is_held words p = not p.1.1 || has p.0 (run_of words (gnu_hash_of p.1.0)) && has_hash words p.0 (gnu_hash_of p.1.0)
+is_held words p = not p.1.1 || is_some (place_of p.0 (run_of words (gnu_hash_of p.1.0))) && has_hash words p.0 (gnu_hash_of p.1.0)
 
 -- each bucket is empty or leads to a run, and each defined name is held
 abbrev pub is_sound : List ℕ → List Named → Bool
@@ -87,7 +87,7 @@ pub record IsTableOf (words : List ℕ) (names : List Named) : Type 0 where
 
 -- how many indices of a run are passed up to the one that is found, that one too; all of them where none is found
 abbrev pub passed : List ℕ → Option ℕ → ℕ
-passed run found = option_map_or (λ i. option_map_or (λ k. k + 1) (position (λ j. j == i) run) (length run)) found (length run)
+passed run found = option_map_or (λ i. option_map_or (λ k. k + 1) (place_of i run) (length run)) found (length run)
 
 -- how many indices the look-up of a name passes
 abbrev pub walk_of : GnuTable → List ℕ → ℕ

@@ -1,15 +1,16 @@
 //! Tables that are read from files: whether they are sound, seen in one pass over buckets and names.
 
 ghost use Rattle.std.specs.Prelude.{◌≡◌, ◌<◌, ◌&&◌, ◌^◌, IfOk, length, slice_index_or, false, []};
+ghost use Rattle.std.specs.Option.{is_some};
 ghost use Rattle.std.specs.List.{list_all, enumerate_from};
 ghost use Rattle.cap_names.specs.Named.{AreDistinct, name_at};
 ghost use Rattle.cap_names.specs.Hash.{gnu_hash_of};
-ghost use Rattle.cap_gnu.specs.Adopted.{Adopts, IsLaidOut, IsTableOf, bucket_words, has, has_hash, index_words, is_held, is_run, is_sound, run_of};
+ghost use Rattle.cap_gnu.specs.Adopted.{Adopts, IsLaidOut, IsTableOf, bucket_words, has_hash, index_words, is_held, is_run, is_sound, place_of, run_of};
 ghost use Rattle.cap_gnu.specs.Lengths.{AreLengths};
 
 use crate::chains::GnuChains;
 use crate::lengths::lengths_of;
-use crate::runs::{is_empty_or_run, is_in_run};
+use crate::runs::{Run, is_empty_or_run};
 use crate::table::{buckets, indices, is_hash_at};
 use cap_base::{NameList, NoMemory};
 use cap_names::{NameHash, NameIndex, gnu_hash};
@@ -53,10 +54,10 @@ fn are_runs(words: &[u32], lengths: &[u32]) -> bool
 fn is_placed(words: &[u32], lengths: &[u32], name: &[u8], i: u32) -> bool
     requires laid { IsLaidOut words.now }
     requires lengths { AreLengths (index_words words.now) lengths.now }
-    ensures { result ≡ (has i (run_of words.now (gnu_hash_of name.now)) && has_hash words.now i (gnu_hash_of name.now)) }
+    ensures { result ≡ (is_some (place_of i (run_of words.now (gnu_hash_of name.now))) && has_hash words.now i (gnu_hash_of name.now)) }
 {
     let hash = gnu_hash(name);
-    is_in_run(words, lengths, hash, i) && is_hash_at(words, i, hash)
+    Run::of_hash(words, lengths, hash).place(i).is_some() && is_hash_at(words, i, hash)
 }
 
 /// Whether an index isn't defined, or is placed by its name.

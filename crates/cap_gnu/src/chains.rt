@@ -5,7 +5,7 @@ ghost use Rattle.cap_names.specs.Hash.{gnu_hash_of};
 ghost use Rattle.cap_names.specs.Named.{IsOnly, first_defined};
 ghost use Rattle.cap_gnu.specs.Adopted.{passed, run_of, walk_of};
 
-use crate::runs::passed_in_run;
+use crate::runs::Run;
 use cap_names::{NameIndex, gnu_hash};
 use std::marker::Model;
 
@@ -60,7 +60,7 @@ impl GnuChains {
     pub fn walk_found(&self, hash: u32, found: Option<u32>) -> u32
         ensures { result ≡ passed (run_of self.now.words hash) found }
     {
-        passed_in_run(&self.words, &self.lengths, hash, found)
+        Run::of_hash(&self.words, &self.lengths, hash).passed(found)
     }
 
     /// The words of the table.

@@ -28,3 +28,6 @@ mod starts;
 
 pub use hashing::{NameHash, gnu_hash, system_v_hash};
 pub use index::NameIndex;
+
+#[cfg(test)]
+mod tests;
