@@ -7,7 +7,7 @@ use Rattle.std.specs.List.{All, Contains, IsDistinct}
 use Rattle.std.specs.List.Sorted.{IsPermutation, IsSortedBy}
 use Rattle.cap_names.specs.declared.hashing.NameHash.{NameHash}
 use Rattle.cap_names.specs.Named.{Named, name_at, is_defined_at}
-use Rattle.cap_names.specs.Keys.{place_of, key_for, key_at, keys_from, key_lt, name_of, IsKey, IsIndexOf, IsIndexBy, AreHashed}
+use Rattle.cap_names.specs.Keys.{place_of, key_for, key_at, keys_from, key_lt, IsKey, IsIndexOf, IsIndexBy, AreHashed}
 use Rattle.cap_names.proofs.KeyOrder.{key_lt_weak}
 
 -- the two parts of a key

@@ -3,11 +3,12 @@ use Rattle.std.proofs.Common.{◌≡◌, ◌⊎◌, inl, inr, ⊎_elim, ℕ, suc
 use Rattle.std.specs.Prelude.{bytes_eq, IsSomeAnd}
 use Rattle.std.specs.List.{list_any}
 use Rattle.std.proofs.lemmas.Bool.{false_from_ne_true, cases_lt}
-use Rattle.std.proofs.lemmas.List.{get_or-take, length-take-le}
+use Rattle.std.proofs.lemmas.List.{get_or-take, get_or_default, length-take-le}
 use Rattle.std.proofs.lemmas.List.Folds.{list_any_at}
+use Rattle.std.proofs.lemmas.Map.Keys.{IsDistinct-from_apart}
 use Rattle.std.proofs.lemmas.Slice.Eq.{bytes_eq-Decides}
 use Rattle.std.specs.Ordering.{is_gt}
-use Rattle.cap_names.specs.Named.{Named, name_at, is_defined_at, is_repeated, IsLeast}
+use Rattle.cap_names.specs.Named.{Named, name_at, is_defined_at, is_repeated, AreDistinct, IsLeast}
 use Rattle.cap_names.specs.Keys.{Rank, rank_cmp, rank_at, name_of, IsIndexOf, Seen}
 use Rattle.cap_names.proofs.Finding.{both_true, are_both}
 use Rattle.cap_names.proofs.Making.{defined_inside}
@@ -45,6 +46,21 @@ module _ (names : List Named) where
       let inside : i < length (take j names) = omega (arith, less, below, length-take-le j names (omega (arith, below))) in
       let here : same_as names j (get_or names i ([], false)) ≡ true = are_both (is_defined_at names i) _ first ((bytes_eq-Decides _ _).1 same) in
       are_both (is_defined_at names j) _ second (list_any_at (same_as names j) (take j names) i ([], false) inside (ap (same_as names j) (get_or-take j names i ([], false) less) ∙ here))
+
+-- where none is repeated, defined names are distinct
+pub distinct_from_none : (names : List Named) (least : Option ℕ) → IsLeast (is_repeated names) least → least ≡ None → AreDistinct names
+distinct_from_none names least is none =
+    let no : (k : ℕ) → is_repeated names k ≡ false = subst (IsLeast (is_repeated names)) none is in
+    let same : Named → Named → Bool = λ a b. a.1 && b.1 && bytes_eq a.0 b.0 in
+    IsDistinct-from_apart same names (λ i j d order h.
+    ap (λ (p : Named). same p (get_or names j d)) (get_or_default names i d ([], false) (omega (arith, order, h)))
+    ∙ ap (same (get_or names i ([], false))) (get_or_default names j d ([], false) h)
+    ∙ false_from_ne_true _ (λ (t : same (get_or names i ([], false)) (get_or names j ([], false)) ≡ true).
+    let both = both_true (is_defined_at names i && is_defined_at names j) (bytes_eq (name_at names i) (name_at names j)) t in
+    let parts = both_true (is_defined_at names i) (is_defined_at names j) both.0 in
+    let yes = repeats names i j order parts.0 parts.1 ((bytes_eq-Decides _ _).0 both.1) in
+    let never = no j in
+    absurd (cc (yes, never))))
 
 module _ (names : List Named) (keys : List ℕ) (index : IsIndexOf names keys) where
   abbrev rank : ℕ → Rank

@@ -1,6 +1,6 @@
 //! The index of a list of names.
 
-ghost use Rattle.std.specs.Prelude.{◌≡◌, ◌<◌, ◌^◌, length, IfOk};
+ghost use Rattle.std.specs.Prelude.{◌≡◌, ◌<◌, ◌^◌, None, length, IfOk};
 ghost use Rattle.cap_names.specs.Hash.{hash_by};
 ghost use Rattle.cap_names.specs.Named.{hashed_names, first_defined, is_repeated, AreDistinct, IsOnly, IsLeast};
 
@@ -72,8 +72,10 @@ impl NameIndex {
 
     /// The least index that is defined and has the name of an earlier one that is defined; none exactly where defined
     /// names are distinct. It takes no memory.
+    #[tactic(auto, using(crate::proofs::Repeats::distinct_from_none))]
     pub fn first_repeated(&self) -> Option<u32>
-        ensures { IsLeast (is_repeated self.now.names) result }
+        ensures least { IsLeast (is_repeated self.now.names) result }
+        ensures distinct { result ≡ None → AreDistinct self.now.names }
     {
         repeating::first_repeated(&self.names, &self.keys)
     }
