@@ -15,7 +15,6 @@ pub mod Sizes
 pub mod ImageOf
 pub mod FieldBytes
 pub mod Passed
-pub mod ReadBack
 pub mod ReadBackPlaces
 pub mod ReadBackWords
 pub mod ReadBackRecords
