@@ -13,15 +13,16 @@ use Rattle.cap_session.specs.State.{State}
 use Rattle.purecap.specs.declared.demo.Halt.{Halt}
 use Rattle.purecap.specs.declared.demo.Halt.TheVariants as halts
 use Rattle.purecap.specs.declared.faults.Failure.{Failure}
-use Rattle.purecap.specs.declared.faults.Failure.TheVariants.{Usage, NoFile, Malformed, Unsupported, Unresolved, Inexact, Full, Limit, ReadFault, WriteFault, NoMemory}
+use Rattle.purecap.specs.declared.faults.Failure.TheVariants.{Usage, NoFile, Malformed, Unsupported, Unresolved, Inexact, Full, Limit, ReadFault, WriteFault, NoMemory, NoWord, Differs}
 use Rattle.purecap.specs.Faults.{line_of}
 use Rattle.purecap.specs.LinkWords.{LinkWords}
 use Rattle.purecap.specs.Linking.{kind_of, link_failure, linked, linked_by}
-use Rattle.purecap.specs.Story.{Product, Printed, Stop, stop_at}
+use Rattle.purecap.specs.Story.{Product, Printed, Saved, Differing, Stop, stop_at}
 use Rattle.purecap.specs.Answer.{demo_story, demo_text, state_image, summed}
 use Rattle.purecap.specs.Demo.{demo_failure, demo_linked, demo_opened, demo_started, demo_store, link_for, linked_bytes, linked_parts, or_stop, product_bytes, summary_of}
 use Rattle.purecap.specs.Run.{Stream, Disk, IsStill, IsKept, IsUntouched, IsNothing, EndsAs, Says, Demos}
-use Rattle.purecap.specs.Summing.{Halts, PrintsTold, Tells}
+use Rattle.purecap.specs.Printing.{PrintsTold}
+use Rattle.purecap.specs.Summing.{Halts, Tells}
 use Rattle.purecap.proofs.Ways.{of_no_file}
 
 -- ---- what every end is
@@ -31,6 +32,8 @@ abbrev pub can_end : Failure → Bool
 can_end Usage = false
 can_end ReadFault = false
 can_end WriteFault = false
+can_end (NoWord slot) = false
+can_end Differs = false
 can_end failure = true
 
 abbrev EndsWell : {X : Type 0} → Result X Stop → Type 0
@@ -119,6 +122,8 @@ own_failure (Limit check) can = refl
 own_failure ReadFault can = cc
 own_failure WriteFault can = cc
 own_failure NoMemory can = refl
+own_failure (NoWord slot) can = cc
+own_failure Differs can = cc
 
 pub demo_fails : (number : ℕ) (stop : Stop) → (demo_story number).«end» ≡ Err stop → of_no_file stop.failure ≡ false
 demo_fails number stop is = own_failure stop.failure (subst EndsWell is (story_well (demo_text number) (text_well number)))
@@ -146,6 +151,8 @@ module _ (number : ℕ) (disk : Disk) (out err : Stream) (untouched : IsUntouche
   stopped_so still path ReadFault is can says = cc
   stopped_so still path WriteFault is can says = cc
   stopped_so still path NoMemory is can says = record { told = []; later = []; notes = refl; nothing = nothing still; says = says; reads_later = omega (arith, reads) }
+  stopped_so still path (NoWord slot) is can says = cc
+  stopped_so still path Differs is can says = cc
 
   pub demo_halted : IsStill out → (halt : Halt) (failure : Failure) → Halts halt (demo_text number) → Tells halt err failure → Demos number disk out err [] (Err failure)
   demo_halted still halts.Memory failure is tells = subst (λ (f : Failure). Demos number disk out err [] (Err f)) (sym tells.0) (record {

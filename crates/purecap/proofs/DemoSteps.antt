@@ -28,7 +28,7 @@ use Rattle.cap_session.specs.State.{State, started, opened}
 use Rattle.purecap.specs.declared.demo.Halt.{Halt}
 use Rattle.purecap.specs.declared.demo.Halt.TheVariants as halts
 use Rattle.purecap.specs.declared.faults.Failure.{Failure}
-use Rattle.purecap.specs.declared.faults.Failure.TheVariants.{Usage, NoFile, Malformed, Unsupported, Unresolved, Inexact, Full, Limit, ReadFault, WriteFault, NoMemory}
+use Rattle.purecap.specs.declared.faults.Failure.TheVariants.{Usage, NoFile, Malformed, Unsupported, Unresolved, Inexact, Full, Limit, ReadFault, WriteFault, NoMemory, NoWord, Differs}
 use Rattle.purecap.specs.Faults.{failure_of}
 use Rattle.purecap.specs.LinkWords.{LinkWords}
 use Rattle.purecap.specs.Linking.{linked}
@@ -63,6 +63,8 @@ stops_is said path (Limit check) is own = is.0
 stops_is said path ReadFault is own = absurd (omega (arith, is))
 stops_is said path WriteFault is own = absurd is
 stops_is said path NoMemory is own = cc
+stops_is said path (NoWord slot) is own = is.0
+stops_is said path Differs is own = absurd is
 
 module _ {X : Type 0} (bytes_of : X → List ℕ) (words : LinkWords) (inputs : List Input) (same : map (λ (i : Input). i.0) inputs ≡ words.inputs) where
   words_are : link_for words.output words.soname inputs ≡ words

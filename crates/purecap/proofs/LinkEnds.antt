@@ -9,10 +9,10 @@ use Rattle.cap_base.specs.declared.refusal.Refusal.TheVariants as refusals
 use Rattle.cap_link.specs.Inputs.{Input}
 use Rattle.cap_link.specs.Linked.{linked_file, refused_name}
 use Rattle.purecap.specs.declared.faults.Failure.{Failure}
-use Rattle.purecap.specs.declared.faults.Failure.TheVariants.{Usage, NoFile, Malformed, Unsupported, Unresolved, Inexact, Full, Limit, ReadFault, WriteFault, NoMemory}
+use Rattle.purecap.specs.declared.faults.Failure.TheVariants.{Usage, NoFile, Malformed, Unsupported, Unresolved, Inexact, Full, Limit, ReadFault, WriteFault, NoMemory, NoWord, Differs}
 use Rattle.purecap.specs.Faults.{line_of}
 use Rattle.purecap.specs.LinkWords.{LinkWords}
-use Rattle.purecap.specs.Story.{Product, Printed, Saved, Stop, stop_at}
+use Rattle.purecap.specs.Story.{Product, Printed, Saved, Differing, Stop, stop_at}
 use Rattle.purecap.specs.Linking.{Found, input_of, with_input, input_step, inputs_of, kind_of, link_failure, linked_by, linked, link_end, link_story}
 use Rattle.purecap.specs.Run.{Count, counted, Stream, streamed, Disk, stored, IsStill, IsKept, IsUntouched, IsNothing, EndsAs, Says, Links}
 use Rattle.purecap.specs.Calling.{SavesFile}
@@ -35,6 +35,8 @@ module _ (words : LinkWords) (found : List Found) (disk : Disk) (out err : Strea
   stops_end path ReadFault is says = record { told = []; later = []; notes = refl; path = path; nothing = nothing; says = says; rose = is }
   stops_end path WriteFault is says = absurd is
   stops_end path NoMemory is says = record { told = []; later = []; notes = refl; nothing = nothing; says = says; reads_later = omega (arith, is) }
+  stops_end path (NoWord slot) is says = record { path = path; defined = is.0; nothing = nothing; says = says; reads_kept = is.1 }
+  stops_end path Differs is says = absurd is
 
 abbrev fail : Failure → Result Unit Failure
 fail failure = Err failure
@@ -90,6 +92,7 @@ links_saved bytes_of words told new old_writing writing r0 r1 r2 writes out e0 e
 abbrev pub IsLinkEnd : Result Product Stop → Type 0
 IsLinkEnd (Ok (Printed output)) = ⊥
 IsLinkEnd (Ok (Saved name bytes memories)) = memories ≡ []
+IsLinkEnd (Ok (Differing path output)) = ⊥
 IsLinkEnd (Err stop) = of_no_file stop.failure ≡ false
 
 abbrev StopsSo : {X : Type 0} → Result X Stop → Type 0

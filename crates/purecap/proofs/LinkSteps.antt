@@ -15,7 +15,7 @@ use Rattle.cap_base.specs.declared.refusal.Refusal.TheVariants as refusals
 use Rattle.cap_link.specs.Inputs.{Input}
 use Rattle.cap_link.specs.Linked.{linked_file, refused_name}
 use Rattle.purecap.specs.declared.faults.Failure.{Failure}
-use Rattle.purecap.specs.declared.faults.Failure.TheVariants.{Usage, NoFile, Malformed, Unsupported, Unresolved, Inexact, Full, Limit, ReadFault, WriteFault, NoMemory}
+use Rattle.purecap.specs.declared.faults.Failure.TheVariants.{Usage, NoFile, Malformed, Unsupported, Unresolved, Inexact, Full, Limit, ReadFault, WriteFault, NoMemory, NoWord, Differs}
 use Rattle.purecap.specs.Reading.{unread}
 use Rattle.purecap.specs.LinkWords.{LinkWords}
 use Rattle.purecap.specs.Story.{Product, Saved, Stop, stop_at}
@@ -49,6 +49,8 @@ stops_bind said next reads path (Limit check) is = (ap (λ r. r >>= next) is.0, 
 stops_bind said next reads path ReadFault is = is
 stops_bind said next reads path WriteFault is = is
 stops_bind said next reads path NoMemory is = is
+stops_bind said next reads path (NoWord slot) is = (ap (λ r. r >>= next) is.0, is.1)
+stops_bind said next reads path Differs is = is
 
 -- ---- one file
 

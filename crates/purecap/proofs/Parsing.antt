@@ -4,7 +4,7 @@ use Rattle.std.specs.Prelude.{unwrap_or, option_map, string_bytes}
 use Rattle.std.specs.Borrow.{Bor}
 use Rattle.std.specs.List.{list_any}
 use Rattle.cap_session.specs.Calls.{Call}
-use Rattle.purecap.specs.declared.words.CallWord.{CallWord}
+use Rattle.purecap.specs.declared.words.program.CallWord.{CallWord}
 use Rattle.clap.specs.Words.{App, Row, Text, first_value, found_of, fault_of, is_simple, is_simple_and_free, built, matches_of, rows_of, HasMatchesOf, IsAmong}
 use Rattle.clap.specs.Faults.{is_free_app}
 use Rattle.clap.specs.Matches.{matched_of, raw_values}
@@ -16,7 +16,8 @@ use Rattle.clap.proofs.OnLiterals.{clap_on_literals}
 use Rattle.clap.proofs.WalkLemmas.{first_value-rows, raw_values-rows, list_any-map, both}
 use Rattle.purecap.specs.declared.faults.Failure.TheVariants.{Usage}
 use Rattle.purecap.specs.WordRules.{is_long, unless_faulty, parsed, value_of, values_of}
-use Rattle.purecap.specs.Words.{call_meant, has_long_name, show_app, load_app}
+use Rattle.purecap.specs.ProgramWords.{call_meant, has_long_name}
+use Rattle.purecap.specs.Words.{show_app, load_app, init_app, reach_app, audit_app}
 
 taken : (kinds : List ErrorKind) (rows found : List Row) → kinds ≡ [] → found ≡ rows → unless_faulty kinds rows ≡ Ok found
 taken kinds rows found none same = ap (λ k. unless_faulty k rows) none ∙ ap (λ r. Ok r) (sym same)
@@ -55,7 +56,7 @@ pub no_values_read : (f : Found) (id : Text) (o : Option (Bor (List (Bor Text)))
 no_values_read f id o read is =
     ap (λ t. unwrap_or t []) (sym (raw_values-rows f id) ∙ sym read ∙ ap (option_map (λ s. map (λ v. v.now) s.now)) is)
 
--- both commands are simple, and no argument has a rule on another
+-- the commands are simple, and no argument has a rule on another
 pub show_simple : is_simple_and_free show_app ≡ true
 unfolding show_app clap_on_literals
 show_simple = refl
@@ -63,6 +64,18 @@ show_simple = refl
 pub load_simple : is_simple_and_free load_app ≡ true
 unfolding load_app clap_on_literals
 load_simple = refl
+
+pub init_simple : is_simple_and_free init_app ≡ true
+unfolding init_app clap_on_literals
+init_simple = refl
+
+pub reach_simple : is_simple_and_free reach_app ≡ true
+unfolding reach_app clap_on_literals
+reach_simple = refl
+
+pub audit_simple : is_simple_and_free audit_app ≡ true
+unfolding audit_app clap_on_literals
+audit_simple = refl
 
 pub long_names : (calls : List CallWord) → list_any (λ (call : CallWord). is_long (string_bytes call.name)) calls ≡ has_long_name (map call_meant calls)
 long_names calls = list_any-map (λ (call : Call). is_long call.name) call_meant calls

@@ -8,7 +8,8 @@ use Rattle.cap_session.specs.declared.refusal.OpenRefusal.{OpenRefusal}
 use Rattle.purecap.specs.Faults.{refusal_line}
 use Rattle.purecap.specs.Answer.{note_lines}
 use Rattle.purecap.specs.Run.{Stream, streamed, IsStill, Says}
-use Rattle.purecap.specs.Calling.{Told, joined, Tells, TellsNext}
+use Rattle.purecap.specs.Printing.{Told}
+use Rattle.purecap.specs.Calling.{joined, Tells, TellsNext}
 
 -- lines that were sent are said
 pub says_of : (err : Stream) (lines : List (List ℕ)) (next : Told) → Tells err lines next → Says err lines

@@ -15,13 +15,14 @@ use Rattle.cap_session.specs.Endings.{Starts}
 use Rattle.cap_session.specs.Refused.{IsRefusedBy, CauseCounted}
 use Rattle.purecap.specs.declared.faults.Failure.{Failure}
 use Rattle.purecap.specs.Faults.{failure_of, refusal_line}
-use Rattle.purecap.specs.declared.words.CallWord.{CallWord}
-use Rattle.purecap.specs.Words.{LoadWords, call_meant, IsCallName}
+use Rattle.purecap.specs.declared.words.program.CallWord.{CallWord}
+use Rattle.purecap.specs.ProgramWords.{ProgramWords, call_meant, IsCallName}
 use Rattle.std.specs.String.{string_bytes}
 use Rattle.std.proofs.lemmas.List.Elements.{All-nil, All-cons, All-head, All-tail}
 use Rattle.purecap.specs.Answer.{note_lines}
 use Rattle.purecap.specs.Run.{Count, counted, streamed}
-use Rattle.purecap.specs.Calling.{Told, Tells, is_passed, Passes, Leads, EndsCalls, HasMade, HasEnded, Makes, HasCalled, IsEnded, load_outcome}
+use Rattle.purecap.specs.Printing.{Told}
+use Rattle.purecap.specs.Calling.{Tells, is_passed, Passes, Leads, EndsCalls, HasMade, HasEnded, Makes, HasCalled, IsEnded, outcome_in}
 use Rattle.purecap.proofs.Said.{one_line, tells-more, says_last, note_lines-more}
 use Rattle.purecap.proofs.Outcomes.{Opening, leads_passed, leads_ended, leads_on, ends_on}
 
@@ -91,7 +92,7 @@ module _ (told : Option Store) (old mid : SessionValue) (calls left : List Call)
   }
 
 -- a refused start
-start_ends : (fetch : Fetch) (words : LoadWords) (refusal : OpenRefusal) (cause : OpenCause) → IsRefusedBy (started fetch words.dir words.main words.rule) refusal cause
+start_ends : (fetch : Fetch) (words : ProgramWords) (refusal : OpenRefusal) (cause : OpenCause) → IsRefusedBy (started fetch words.dir words.main words.rule) refusal cause
     → EndsCalls [] refusal cause (outcome_from fetch words.dir words.rule words.calls (started fetch words.dir words.main words.rule))
 start_ends fetch words refusal NoFile is = ap (outcome_from fetch words.dir words.rule words.calls) is
 start_ends fetch words refusal (Malformed check at) is = ap (outcome_from fetch words.dir words.rule words.calls) is
@@ -103,13 +104,13 @@ start_ends fetch words refusal (Limit check) is = ap (outcome_from fetch words.d
 start_ends fetch words refusal ReadFault is = (_, refl)
 start_ends fetch words refusal NoMemory is = (_, refl)
 
-pub begin_ends : (told : Option Store) (words : LoadWords) (refusal : OpenRefusal) → IfSome told (λ store. Starts (started (fetch_from store) words.dir words.main words.rule) (Err refusal))
-    → IfSome (load_outcome told words) (EndsCalls [] refusal refusal.cause)
+pub begin_ends : (told : Option Store) (words : ProgramWords) (refusal : OpenRefusal) → IfSome told (λ store. Starts (started (fetch_from store) words.dir words.main words.rule) (Err refusal))
+    → IfSome (outcome_in told words) (EndsCalls [] refusal refusal.cause)
 begin_ends None words refusal is = tt
 begin_ends (Some store) words refusal is = start_ends (fetch_from store) words refusal refusal.cause is
 
-pub begin_leads : (told : Option Store) (words : LoadWords) (s : SessionValue) → IfSome told (λ store. Starts (started (fetch_from store) words.dir words.main words.rule) (Ok s))
-    → s.dir ≡ words.dir → s.rule ≡ words.rule → Leads told s words.calls (load_outcome told words)
+pub begin_leads : (told : Option Store) (words : ProgramWords) (s : SessionValue) → IfSome told (λ store. Starts (started (fetch_from store) words.dir words.main words.rule) (Ok s))
+    → s.dir ≡ words.dir → s.rule ≡ words.rule → Leads told s words.calls (outcome_in told words)
 begin_leads None words s is dir rule = refl
 begin_leads (Some store) words s is dir rule = (
   is.0,

@@ -19,7 +19,9 @@ use Rattle.std.specs.Option.{option_map_or}
 use Rattle.std.specs.List.{list_any}
 use Rattle.purecap.specs.LinkWords.{LinkWords, asked_by as link_asked, is_no_name, is_no_path, link_app, link_of, link_words}
 use Rattle.purecap.specs.DemoWords.{demo_app, demo_words, is_numeral, number_in, number_of as number_word}
-use Rattle.purecap.specs.Words.{Show, Load, Link, Demo, LoadWords, asked_by, call_of, command_of, form_of, has_long_name, load_app, load_of, load_words, show_app, show_of, show_words}
+use Rattle.purecap.specs.ProgramWords.{ProgramWords, call_of, form_of, has_long_name, limits_checked, paths_checked, program_of}
+use Rattle.purecap.specs.SlotWords.{is_slot, slot_in, slot_of}
+use Rattle.purecap.specs.Words.{Show, Load, Link, Demo, Init, Reach, Audit, LoadWords, audit_app, audit_of, audit_words, command_of, init_app, init_of, init_words, load_app, load_of, load_words, reach_app, reach_of, reach_words, show_app, show_of, show_words}
 use Rattle.purecap.proofs.Ways.{is_of_words, or_fails}
 
 abbrev Fits : {A : Type 0} → Result A Failure → Type 0
@@ -69,18 +71,51 @@ unfolding show_of
 show_fails image =
     then_fails _ (Ok (Show image)) (then_fails (refuse (not (is_path image)) Usage) (refuse (is_long image) too_long) (refuse_fails (not (is_path image)) Usage refl) (refuse_fails (is_long image) too_long refl)) refl
 
+program_fails : (rows : List Row) → Fits (program_of rows)
+unfolding program_of
+program_fails rows = bind_fails (gather call_of (values_of rows (codes "call"))) _ (calls_fail (values_of rows (codes "call"))) (λ calls. refl)
+
+paths_fail : (asked : ProgramWords) → Fits (paths_checked asked)
+unfolding paths_checked
+paths_fail asked = then_fails _ _ (refuse_fails (not (is_path asked.dir)) Usage refl) (refuse_fails (not (is_path asked.main)) Usage refl)
+
+limits_fail : (asked : ProgramWords) → Fits (limits_checked asked)
+unfolding limits_checked
+limits_fail asked =
+    let short_dir = refuse_fails (is_long asked.dir) too_long refl in
+    let short_main = then_fails _ _ short_dir (refuse_fails (is_long asked.main) too_long refl) in
+    let short_names = then_fails _ _ short_main (refuse_fails (has_long_name asked.calls) too_long refl) in
+    then_fails _ _ short_names (refuse_fails (nat_lt 64 (length asked.calls)) (Limit (number_of CallCount)) refl)
+
 load_fails : (asked : LoadWords) → Fits (load_of asked)
 unfolding load_of
 load_fails asked =
     let image = refuse_fails (not (is_path asked.image)) Usage refl in
-    let dir = then_fails _ _ image (refuse_fails (not (is_path asked.dir)) Usage refl) in
-    let main = then_fails _ _ dir (refuse_fails (not (is_path asked.main)) Usage refl) in
-    let short_image = then_fails _ _ main (refuse_fails (is_long asked.image) too_long refl) in
-    let short_dir = then_fails _ _ short_image (refuse_fails (is_long asked.dir) too_long refl) in
-    let short_main = then_fails _ _ short_dir (refuse_fails (is_long asked.main) too_long refl) in
-    let short_names = then_fails _ _ short_main (refuse_fails (has_long_name asked.calls) too_long refl) in
-    let few = then_fails _ _ short_names (refuse_fails (nat_lt 64 (length asked.calls)) (Limit (number_of CallCount)) refl) in
-    then_fails _ (Ok (Load asked)) few refl
+    let paths = then_fails _ _ image (paths_fail asked.program) in
+    let short = then_fails _ _ paths (refuse_fails (is_long asked.image) too_long refl) in
+    then_fails _ (Ok (Load asked)) (then_fails _ _ short (limits_fail asked.program)) refl
+
+init_fails : (asked : ProgramWords) → Fits (init_of asked)
+unfolding init_of
+init_fails asked = then_fails _ (Ok (Init asked)) (then_fails _ _ (paths_fail asked) (limits_fail asked)) refl
+
+slot_fails : (word : Text) → Fits (slot_of word)
+unfolding slot_of
+slot_fails word = then_fails (refuse (not (is_slot word)) Usage) (Ok (slot_in word)) (refuse_fails (not (is_slot word)) Usage refl) refl
+
+reach_fails : (image word : Text) → Fits (reach_of image word)
+unfolding reach_of
+reach_fails image word =
+    then_fails _ _ (refuse_fails (not (is_path image)) Usage refl)
+    (bind_fails (slot_of word) _ (slot_fails word) (λ slot. then_fails _ (Ok (Reach image slot)) (refuse_fails (is_long image) too_long refl) refl))
+
+audit_fails : (image : Text) (asked : ProgramWords) → Fits (audit_of image asked)
+unfolding audit_of
+audit_fails image asked =
+    let path = refuse_fails (not (is_path image)) Usage refl in
+    let paths = then_fails _ _ path (paths_fail asked) in
+    let short = then_fails _ _ paths (refuse_fails (is_long image) too_long refl) in
+    then_fails _ (Ok (Audit image asked)) (then_fails _ _ short (limits_fail asked)) refl
 
 show_words_fail : (words : List Text) → Fits (show_words words)
 unfolding show_words
@@ -90,7 +125,23 @@ load_words_fail : (words : List Text) → Fits (load_words words)
 unfolding load_words
 load_words_fail words =
     bind_fails (parsed load_app words) _ (parsed_fails load_app words) (λ rows.
-    bind_fails (gather call_of (values_of rows (codes "call"))) _ (calls_fail (values_of rows (codes "call"))) (λ calls. load_fails (asked_by rows calls)))
+    bind_fails (program_of rows) _ (program_fails rows) (λ program. load_fails (record { image = value_of rows (codes "image"); program = program })))
+
+init_words_fail : (words : List Text) → Fits (init_words words)
+unfolding init_words
+init_words_fail words =
+    bind_fails (parsed init_app words) _ (parsed_fails init_app words) (λ rows. bind_fails (program_of rows) _ (program_fails rows) (λ program. init_fails program))
+
+reach_words_fail : (words : List Text) → Fits (reach_words words)
+unfolding reach_words
+reach_words_fail words =
+    bind_fails (parsed reach_app words) _ (parsed_fails reach_app words) (λ rows. reach_fails (value_of rows (codes "image")) (value_of rows (codes "slot")))
+
+audit_words_fail : (words : List Text) → Fits (audit_words words)
+unfolding audit_words
+audit_words_fail words =
+    bind_fails (parsed audit_app words) _ (parsed_fails audit_app words) (λ rows.
+    bind_fails (program_of rows) _ (program_fails rows) (λ program. audit_fails (value_of rows (codes "image")) program))
 
 link_fails : (asked : LinkWords) → Fits (link_of asked)
 unfolding link_of
@@ -124,4 +175,7 @@ words_fail (first ∷ words) =
     choice_fails (bytes_eq first (codes "show")) (show_words (first ∷ words)) _ (show_words_fail (first ∷ words))
     (choice_fails (bytes_eq first (codes "load")) (load_words (first ∷ words)) _ (load_words_fail (first ∷ words))
     (choice_fails (bytes_eq first (codes "link")) (link_words (first ∷ words) >>= λ asked. Ok (Link asked)) _ (bind_fails (link_words (first ∷ words)) _ (link_words_fail (first ∷ words)) (λ asked. refl))
-    (choice_fails (bytes_eq first (codes "demo")) (demo_words (first ∷ words) >>= λ number. Ok (Demo number)) (Err Usage) (bind_fails (demo_words (first ∷ words)) _ (demo_words_fail (first ∷ words)) (λ number. refl)) refl)))
+    (choice_fails (bytes_eq first (codes "demo")) (demo_words (first ∷ words) >>= λ number. Ok (Demo number)) _ (bind_fails (demo_words (first ∷ words)) _ (demo_words_fail (first ∷ words)) (λ number. refl))
+    (choice_fails (bytes_eq first (codes "init")) (init_words (first ∷ words)) _ (init_words_fail (first ∷ words))
+    (choice_fails (bytes_eq first (codes "reach")) (reach_words (first ∷ words)) _ (reach_words_fail (first ∷ words))
+    (choice_fails (bytes_eq first (codes "audit")) (audit_words (first ∷ words)) (Err Usage) (audit_words_fail (first ∷ words)) refl))))))

@@ -1,9 +1,8 @@
 -- How a start and calls go, and what they have told on the error output.
 use Rattle.std.specs.Prelude.{◌≡◌, ◌⊎◌, ℕ, Bool, true, false, List, [], ◌∷◌, ◌++◌, flat_map, Option, Some, None, option_map, IfSome, Result, Ok, Err}
 use Rattle.cap_base.specs.Outside.{Store, Sends, SendsNext}
-use Rattle.cap_base.specs.declared.outside.Failed.{Failed}
 use Rattle.cap_mem.specs.Tagged.{TaggedMemory}
-use Rattle.cap_image.specs.Writing.{image_of, image_bytes}
+use Rattle.cap_audit.specs.declared.finding.Finding.{Finding}
 use Rattle.cap_session.specs.declared.form.Form.{Form}
 use Rattle.cap_session.specs.declared.refusal.OpenCause.{OpenCause}
 use Rattle.cap_session.specs.declared.refusal.OpenCause.TheVariants.{ReadFault, NoMemory}
@@ -16,14 +15,11 @@ use Rattle.cap_session.specs.Refused.{CauseCounted}
 use Rattle.purecap.specs.declared.faults.Failure.{Failure}
 use Rattle.purecap.specs.declared.faults.Failure.TheVariants as failures
 use Rattle.purecap.specs.Faults.{failure_of, line_of, refusal_line}
-use Rattle.purecap.specs.Words.{LoadWords}
-use Rattle.purecap.specs.Story.{Story}
-use Rattle.purecap.specs.Answer.{story_of, note_lines}
-use Rattle.purecap.specs.Run.{Count, Stream, Disk, IsStill, IsKept, Says, IsUntouched, IsEntered, IsBroken, IsLoaded, EndsAs}
-
--- whether the lines so far were written whole
-abbrev pub Told : Type 0
-Told = Result Unit Failed
+use Rattle.purecap.specs.ProgramWords.{ProgramWords}
+use Rattle.purecap.specs.Story.{Product, Differing, Story}
+use Rattle.purecap.specs.Answer.{story_by, note_lines}
+use Rattle.purecap.specs.Run.{Count, Stream, Disk, IsStill, IsKept, Says, IsUntouched, IsNothing, IsEntered, IsBroken, IsWritten, IsGiven, IsGivenPart, IsEndOf, target_of, EndsAs}
+use Rattle.purecap.specs.Printing.{Told, IsLast}
 
 abbrev pub joined : List (List ℕ) → List ℕ
 joined lines = flat_map (λ l. l) lines
@@ -115,45 +111,57 @@ abbrev pub Calls : Option Store → SessionValue → SessionValue → List Call 
 Calls told old new calls reads err (Ok next) = HasCalled told old new calls [] reads err next
 Calls told old new calls reads err (Err failure) = (outcome : Option Outcome) → Leads told old calls outcome → IsEnded outcome reads err failure
 
--- the outcome of the start and the calls of `load`, where the store tells its files
-abbrev pub load_outcome : Option Store → LoadWords → Option Outcome
-load_outcome told words = option_map (λ store. outcome_of (fetch_from store) words.dir words.main words.rule words.calls) told
+-- the outcome of the start and the calls of a program, where the store tells its files
+abbrev pub outcome_in : Option Store → ProgramWords → Option Outcome
+outcome_in told words = option_map (λ store. outcome_of (fetch_from store) words.dir words.main words.rule words.calls) told
 
 -- the program started, or its start ended the run
-pub record HasBegun (words : LoadWords) (told : Option Store) (reads : Count) (err : Stream) (s : SessionValue) : Type 0 where
-  pub leads : Leads told s words.calls (load_outcome told words)
+pub record HasBegun (words : ProgramWords) (told : Option Store) (reads : Count) (err : Stream) (s : SessionValue) : Type 0 where
+  pub leads : Leads told s words.calls (outcome_in told words)
   pub still : IsStill err
   pub reads_kept : IsKept reads
 
-abbrev pub Begins : LoadWords → Option Store → Count → Stream → Result SessionValue Failure → Type 0
+abbrev pub Begins : ProgramWords → Option Store → Count → Stream → Result SessionValue Failure → Type 0
 Begins words told reads err (Ok s) = HasBegun words told reads err s
-Begins words told reads err (Err failure) = IsEnded (load_outcome told words) reads err failure
-
--- a failure of writing was told behind other lines
-abbrev pub IsLast : List ℕ → Failure → Stream → Told → Type 0
-IsLast path failure err so_far = (next : Told) × SendsNext so_far err.old err.new err.faults.before err.faults.now (line_of path failure) next
+Begins words told reads err (Err failure) = IsEnded (outcome_in told words) reads err failure
 
 -- these bytes were written in a file, or a front of them
 abbrev pub SavesFile : List ℕ → List ℕ → Disk → Stream → Told → Result Unit Failure → Type 0
-SavesFile image bytes disk err so_far (Ok _) = IsEntered disk image bytes × IsStill err × IsKept disk.reads
-SavesFile image bytes disk err so_far (Err failure) =
-    (failure ≡ failures.WriteFault) × IsBroken disk image bytes × IsLast image failures.WriteFault err so_far × IsKept disk.reads
+SavesFile path bytes disk err so_far (Ok _) = IsEntered disk path bytes × IsStill err × IsKept disk.reads
+SavesFile path bytes disk err so_far (Err failure) =
+    (failure ≡ failures.WriteFault) × IsBroken disk path bytes × IsLast path failures.WriteFault err so_far × IsKept disk.reads
 
--- memory ran out before a file was created
-abbrev pub IsUnwritten : Disk → Stream → Told → Type 0
-IsUnwritten disk err so_far = IsUntouched disk × IsLast [] failures.NoMemory err so_far × IsKept disk.reads
+-- how an image differs was printed, and told behind other lines
+pub record IsToldDifferent (product : Product) (disk : Disk) (out err : Stream) (kept : List TaggedMemory) (so_far : Told) : Type 0 where
+  pub path : List ℕ
+  pub output : List ℕ
+  pub is : product ≡ Differing path output
+  pub untouched : IsUntouched disk
+  pub written : IsWritten out output
+  pub none : kept ≡ []
+  pub told : IsLast path failures.Differs err so_far
+  pub reads_kept : IsKept disk.reads
 
--- the image of a session was written, or a front of it, or memory ran out
-abbrev pub Writes : SessionValue → List ℕ → Disk → Stream → Told → Result Unit Failure → Type 0
-Writes s image disk err so_far end =
-    SavesFile image (image_bytes (image_of s.names s.symbols s.memories)) disk err so_far end
-    ⊎ ((end ≡ Err failures.NoMemory) × IsUnwritten disk err so_far)
+-- behind all calls, this product was given, or a front of it, or memory ran out before; each failure was told behind
+-- other lines
+abbrev pub Finishes : Product → Disk → Stream → Stream → List TaggedMemory → Told → Result Unit Failure → Type 0
+Finishes product disk out err kept so_far (Ok _) = IsGiven product disk out kept × IsStill err × IsKept disk.reads
+Finishes product disk out err kept so_far (Err failures.WriteFault) =
+    IsGivenPart product disk out kept × IsLast (target_of product) failures.WriteFault err so_far × IsKept disk.reads
+Finishes product disk out err kept so_far (Err failures.NoMemory) = IsNothing disk out kept × IsLast [] failures.NoMemory err so_far × IsKept disk.reads
+Finishes product disk out err kept so_far (Err failures.Differs) = IsToldDifferent product disk out err kept so_far
+Finishes product disk out err kept so_far (Err failure) = ⊥
 
--- what a start and calls with this outcome come to, and how it ended
-pub record Comes (outcome : Option Outcome) (image : List ℕ) (disk : Disk) (out err : Stream) (kept : List TaggedMemory) (end : Result Unit Failure) : Type 0 where
+-- where there are findings, it is told behind other lines that the image of this path differs
+abbrev pub TellsDifference : List ℕ → List Finding → Stream → Told → Result Unit Failure → Type 0
+TellsDifference path [] err so_far end = (end ≡ Ok tt) × IsStill err
+TellsDifference path (finding ∷ others) err so_far end = (end ≡ Err failures.Differs) × IsLast path failures.Differs err so_far
+
+-- what a start and calls with this outcome come to, of which a command makes this, and how it ended
+pub record Comes (product : State → Product) (IsProduct : Product → Type 0) (outcome : Option Outcome) (disk : Disk) (out err : Stream) (kept : List TaggedMemory) (end : Result Unit Failure) : Type 0 where
   pub story : Story
-  pub is_story : IfSome outcome (λ o. story ≡ story_of image o)
-  pub loaded : IsLoaded image story.«end»
+  pub is_story : IfSome outcome (λ o. story ≡ story_by product o)
+  pub is_end : IsEndOf IsProduct story.«end»
   pub ends : EndsAs story disk out err kept end
 
 -- the memories are kept where all ended well
@@ -161,8 +169,7 @@ abbrev pub kept_by : Result Unit Failure → List TaggedMemory → List TaggedMe
 kept_by (Ok _) memories = memories
 kept_by (Err failure) memories = []
 
--- the calls of a session were made and its image written, or a refusal or a fault ended the run; standard output is left
--- alone
-abbrev pub Carries : SessionValue → SessionValue → LoadWords → Disk → Stream → Result Unit Failure → Type 0
-Carries old new words disk err end =
-    (out : Stream) (outcome : Option Outcome) → IsStill out → Leads disk.old old words.calls outcome → Comes outcome words.image disk out err (kept_by end new.memories) end
+-- the calls of a session were made and the product given, or a refusal or a fault ended the run
+abbrev pub Carries : (State → Product) → (Product → Type 0) → SessionValue → List Call → Disk → Stream → Stream → List TaggedMemory → Result Unit Failure → Type 0
+Carries product IsProduct session calls disk out err kept end =
+    (outcome : Option Outcome) → Leads disk.old session calls outcome → Comes product IsProduct outcome disk out err kept end

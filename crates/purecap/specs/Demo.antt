@@ -21,7 +21,7 @@ use Rattle.purecap.specs.declared.faults.Failure.TheVariants.{NoMemory}
 use Rattle.purecap.specs.Faults.{failure_of}
 use Rattle.purecap.specs.LinkWords.{LinkWords}
 use Rattle.purecap.specs.Linking.{linked}
-use Rattle.purecap.specs.Story.{Product, Printed, Saved, Stop, stop_at}
+use Rattle.purecap.specs.Story.{Differing, Product, Printed, Saved, Stop, stop_at}
 
 -- ---- the objects
 
@@ -42,6 +42,7 @@ link_for output soname inputs = record { output = output; soname = soname; input
 abbrev pub product_bytes : Product → List ℕ
 product_bytes (Printed output) = output
 product_bytes (Saved name bytes memories) = bytes
+product_bytes (Differing path output) = output
 
 -- the bytes of the linked file
 unfoldable pub linked_bytes : List ℕ → Option (List ℕ) → List Input → Result (List ℕ) Stop

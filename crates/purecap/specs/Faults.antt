@@ -6,7 +6,7 @@ use Rattle.purecap.specs.declared.faults.Failure.{Failure}
 use Rattle.cap_session.specs.declared.refusal.OpenCause.{OpenCause}
 use Rattle.cap_session.specs.declared.refusal.OpenCause.TheVariants as causes
 use Rattle.cap_session.specs.declared.refusal.OpenRefusal.{OpenRefusal}
-use Rattle.purecap.specs.declared.faults.Failure.TheVariants.{Usage, NoFile, Malformed, Unsupported, Unresolved, Inexact, Full, Limit, ReadFault, WriteFault, NoMemory}
+use Rattle.purecap.specs.declared.faults.Failure.TheVariants.{Usage, NoFile, Malformed, Unsupported, Unresolved, Inexact, Full, Limit, ReadFault, WriteFault, NoMemory, NoWord, Differs}
 
 -- the status of the process
 abbrev pub status_of : Failure → ℕ
@@ -21,6 +21,8 @@ status_of (Limit check) = 9
 status_of ReadFault = 10
 status_of WriteFault = 11
 status_of NoMemory = 12
+status_of (NoWord slot) = 14
+status_of Differs = 15
 
 -- a line that names a file
 abbrev pub file_line : List ℕ → List ℕ → List ℕ
@@ -43,6 +45,10 @@ interval_line path name base len =
 abbrev pub full_line : List ℕ → ℕ → List ℕ
 full_line path asked = file_line path (codes ": full, asked 0x") ++ digits 16 false asked ++ codes "\n"
 
+-- the line of a slot without a tagged word
+abbrev pub word_line : List ℕ → ℕ → List ℕ
+word_line path slot = file_line path (codes ": no tagged word at 0x") ++ digits 16 false slot ++ codes "\n"
+
 -- the line of a limit
 abbrev pub limit_line : ℕ → List ℕ
 limit_line check = codes "purecap: limit " ++ check_text_of check ++ codes "\n"
@@ -60,6 +66,8 @@ line_of path (Limit check) = limit_line check
 line_of path ReadFault = file_line path (codes ": read fault\n")
 line_of path WriteFault = file_line path (codes ": write fault\n")
 line_of path NoMemory = codes "purecap: out of memory\n"
+line_of path (NoWord slot) = word_line path slot
+line_of path Differs = file_line path (codes ": differs\n")
 
 -- the failure of a start or a call
 abbrev pub failure_of : OpenCause → Failure

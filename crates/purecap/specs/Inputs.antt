@@ -3,7 +3,7 @@ use Rattle.std.specs.Prelude.{◌≡◌, ℕ, List, [], ◌++◌, Option, IfSome
 use Rattle.cap_base.specs.Outside.{Store, file_in}
 use Rattle.cap_link.specs.Inputs.{Input}
 use Rattle.purecap.specs.declared.faults.Failure.{Failure}
-use Rattle.purecap.specs.declared.faults.Failure.TheVariants.{ReadFault, WriteFault, NoMemory}
+use Rattle.purecap.specs.declared.faults.Failure.TheVariants.{ReadFault, WriteFault, NoMemory, Differs}
 use Rattle.purecap.specs.LinkWords.{LinkWords}
 use Rattle.purecap.specs.Story.{Saved, Stop, stop_at}
 use Rattle.purecap.specs.Linking.{Found, input_of, input_step, inputs_of, link_end}
@@ -14,6 +14,7 @@ abbrev pub StopsAs : {Y : Type 0} → Result Y Stop → Count → List ℕ → F
 StopsAs said reads path ReadFault = HasRisen reads
 StopsAs said reads path WriteFault = ⊥
 StopsAs said reads path NoMemory = IsKept reads
+StopsAs said reads path Differs = ⊥
 StopsAs said reads path failure = (said ≡ Err (stop_at path failure)) × IsKept reads
 
 -- a step gives, seen by view, what is said here, or stops

@@ -2,10 +2,14 @@ pub mod Faults
 pub mod WordRules
 pub mod LinkWords
 pub mod DemoWords
+pub mod ProgramWords
+pub mod SlotWords
 pub mod Words
 pub mod Story
 pub mod Linking
 pub mod Demo
+pub mod Images
+pub mod Initial
 pub mod Answer
 pub mod Reading
 pub mod Run

@@ -7,7 +7,7 @@ use Rattle.cap_base.specs.declared.reading.FileRefusal.TheVariants as files
 use Rattle.cap_base.specs.declared.refusal.Refusal.{Refusal}
 use Rattle.cap_base.specs.declared.refusal.Refusal.TheVariants as refusals
 use Rattle.purecap.specs.declared.faults.Failure.{Failure}
-use Rattle.purecap.specs.declared.faults.Failure.TheVariants.{NoFile, Malformed, Unsupported, Limit, ReadFault, WriteFault, NoMemory}
+use Rattle.purecap.specs.declared.faults.Failure.TheVariants.{NoFile, Malformed, Unsupported, Limit, ReadFault, WriteFault, NoMemory, Differs}
 
 -- a file was not read
 abbrev pub unread : FileRefusal → Failure
@@ -35,8 +35,9 @@ unaccepted (refusals.Limit check) = Limit check
 unaccepted refusals.NoMemory = NoMemory
 
 -- the failure is the one that is said here; memory may run out instead
-abbrev pub IsFailureOf : Result (List ℕ) Failure → Failure → Type 0
+abbrev pub IsFailureOf : {Y : Type 0} → Result Y Failure → Failure → Type 0
 IsFailureOf said NoMemory = Unit {0}
 IsFailureOf said ReadFault = ⊥
 IsFailureOf said WriteFault = ⊥
+IsFailureOf said Differs = ⊥
 IsFailureOf said failure = said ≡ Err failure

@@ -4,16 +4,21 @@ use Rattle.std.specs.Io.KnownBytes.{Appends}
 use Rattle.cap_base.specs.Outside.{Store, file_in, with_file, Rose, AppendsFront}
 use Rattle.cap_base.specs.SaveFile.{WritesFront}
 use Rattle.cap_mem.specs.Tagged.{TaggedMemory}
+use Rattle.cap_image.specs.Parts.{ImageParts}
 use Rattle.cap_image.specs.Writing.{image_of, image_bytes}
+use Rattle.cap_init.specs.declared.call.Call.{Call}
 use Rattle.cap_session.specs.declared.refusal.OpenRefusal.{OpenRefusal}
 use Rattle.purecap.specs.declared.faults.Failure.{Failure}
-use Rattle.purecap.specs.declared.faults.Failure.TheVariants.{Usage, Limit, ReadFault, WriteFault, NoMemory}
+use Rattle.purecap.specs.declared.faults.Failure.TheVariants.{Usage, Limit, ReadFault, WriteFault, NoMemory, Differs}
 use Rattle.purecap.specs.Faults.{failure_of, status_of, line_of}
-use Rattle.purecap.specs.Words.{Command, Show, Load, Link, Demo, LoadWords, command_of}
+use Rattle.purecap.specs.ProgramWords.{ProgramWords}
+use Rattle.purecap.specs.Words.{Command, Show, Load, Link, Demo, Init, Reach, Audit, LoadWords, command_of}
 use Rattle.purecap.specs.LinkWords.{LinkWords}
 use Rattle.purecap.specs.Linking.{Found, found_in, link_story}
-use Rattle.purecap.specs.Story.{Product, Printed, Saved, Stop, stop_at, Story, stopped}
-use Rattle.purecap.specs.Answer.{show_story, load_story, demo_story, note_lines, lines_before, Answer, answer_to}
+use Rattle.purecap.specs.Initial.{calls_report}
+use Rattle.purecap.specs.Story.{Product, Printed, Saved, Differing, Stop, stop_at, Story, stopped}
+use Rattle.purecap.specs.Images.{image_in}
+use Rattle.purecap.specs.Answer.{show_story, load_story, demo_story, init_story, reach_story, audit_story, compared, note_lines, lines_before, Answer, answer_to}
 
 -- a count of faults, before a run and after it
 pub record Count : Type 0 where
@@ -100,20 +105,23 @@ pub record IsNothing (disk : Disk) (out : Stream) (kept : List TaggedMemory) : T
   pub still : IsStill out
   pub none : kept ≡ []
 
--- the product was given whole
+-- the product was given whole, and it is what was wanted
 abbrev pub IsGiven : Product → Disk → Stream → List TaggedMemory → Type 0
 IsGiven (Printed output) disk out kept = IsUntouched disk × IsWritten out output × (kept ≡ [])
 IsGiven (Saved name bytes memories) disk out kept = IsEntered disk name bytes × IsStill out × (kept ≡ memories)
+IsGiven (Differing path output) disk out kept = ⊥
 
 -- a front of the product was given, and then a write failed
 abbrev pub IsGivenPart : Product → Disk → Stream → List TaggedMemory → Type 0
 IsGivenPart (Printed output) disk out kept = IsUntouched disk × IsCut out output × (kept ≡ [])
 IsGivenPart (Saved name bytes memories) disk out kept = IsBroken disk name bytes × IsStill out × (kept ≡ [])
+IsGivenPart (Differing path output) disk out kept = IsUntouched disk × IsCut out output × (kept ≡ [])
 
 -- where a product goes: standard output is `-`
 abbrev pub target_of : Product → List ℕ
 target_of (Printed output) = codes "-"
 target_of (Saved name bytes memories) = name
+target_of (Differing path output) = codes "-"
 
 -- the story came to its end
 pub record IsDone (story : Story) (disk : Disk) (out err : Stream) (kept : List TaggedMemory) : Type 0 where
@@ -121,6 +129,17 @@ pub record IsDone (story : Story) (disk : Disk) (out err : Stream) (kept : List 
   pub defined : story.«end» ≡ Ok product
   pub given : IsGiven product disk out kept
   pub says : Says err (note_lines story.notes)
+  pub reads_kept : IsKept disk.reads
+
+-- the story came to its end: it was printed how an image differs
+pub record IsDifferent (story : Story) (disk : Disk) (out err : Stream) (kept : List TaggedMemory) : Type 0 where
+  pub path : List ℕ
+  pub output : List ℕ
+  pub defined : story.«end» ≡ Ok (Differing path output)
+  pub untouched : IsUntouched disk
+  pub written : IsWritten out output
+  pub none : kept ≡ []
+  pub says : Says err (lines_before story.notes path Differs)
   pub reads_kept : IsKept disk.reads
 
 -- a write failed at its end
@@ -164,6 +183,7 @@ EndsAs story disk out err kept (Ok _) = IsDone story disk out err kept
 EndsAs story disk out err kept (Err ReadFault) = IsUnread story disk out err kept
 EndsAs story disk out err kept (Err WriteFault) = IsCutShort story disk out err kept
 EndsAs story disk out err kept (Err NoMemory) = IsStarved story disk out err kept
+EndsAs story disk out err kept (Err Differs) = IsDifferent story disk out err kept
 EndsAs story disk out err kept (Err failure) = IsRefused story failure disk out err kept
 
 -- the count of failed reads is as before where memory ran out
@@ -178,18 +198,61 @@ pub record Shows (image : List ℕ) (disk : Disk) (out err : Stream) (kept : Lis
   pub ends : EndsAs (show_story image file) disk out err kept end
   pub calm : IsCalm disk.reads end
 
--- what `load` can come to: a file of this name that is the image of the memories, or the refusal of a start or a call
-abbrev pub IsLoaded : List ℕ → Result Product Stop → Type 0
-IsLoaded image (Ok (Printed output)) = ⊥
-IsLoaded image (Ok (Saved name bytes memories)) =
+-- how `reach` ends: the same
+pub record Reaches (image : List ℕ) (slot : ℕ) (disk : Disk) (out err : Stream) (kept : List TaggedMemory) (end : Result Unit Failure) : Type 0 where
+  pub file : Option (List ℕ)
+  pub is_file : IfSome disk.old (λ store. file ≡ file_in store image)
+  pub ends : EndsAs (reach_story image slot file) disk out err kept end
+  pub calm : IsCalm disk.reads end
+
+-- what a command can come to that loads a program: such a product, or the refusal of a start or a call
+abbrev pub IsEndOf : (Product → Type 0) → Result Product Stop → Type 0
+IsEndOf IsProduct (Ok product) = IsProduct product
+IsEndOf IsProduct (Err stop) = (refusal : OpenRefusal) × (stop ≡ stop_at refusal.path (failure_of refusal.cause))
+
+-- the product of `load`: a file of this name that is the image of the memories
+abbrev pub IsImageFile : List ℕ → Product → Type 0
+IsImageFile image (Printed output) = ⊥
+IsImageFile image (Saved name bytes memories) =
     (name ≡ image) × ((names : List (List ℕ × Bool)) × (symbols : List (List (List ℕ × Bool))) × (bytes ≡ image_bytes (image_of names symbols memories)))
-IsLoaded image (Err stop) = (refusal : OpenRefusal) × (stop ≡ stop_at refusal.path (failure_of refusal.cause))
+IsImageFile image (Differing path output) = ⊥
 
 -- how `load` ends: where the store tells its files, as these lead it
 pub record Loads (words : LoadWords) (disk : Disk) (out err : Stream) (kept : List TaggedMemory) (end : Result Unit Failure) : Type 0 where
   pub story : Story
   pub is_story : IfSome disk.old (λ store. story ≡ load_story words store)
-  pub loaded : IsLoaded words.image story.«end»
+  pub loaded : IsEndOf (IsImageFile words.image) story.«end»
+  pub ends : EndsAs story disk out err kept end
+
+-- the product of `init`: calls that are printed
+abbrev pub IsCallList : Product → Type 0
+IsCallList (Printed output) = (names : List (List ℕ)) × ((calls : List Call) × (output ≡ calls_report names calls))
+IsCallList (Saved name bytes memories) = ⊥
+IsCallList (Differing path output) = ⊥
+
+-- how `init` ends: where the store tells its files, as these lead it
+pub record Inits (words : ProgramWords) (disk : Disk) (out err : Stream) (kept : List TaggedMemory) (end : Result Unit Failure) : Type 0 where
+  pub story : Story
+  pub is_story : IfSome disk.old (λ store. story ≡ init_story words store)
+  pub called : IsEndOf IsCallList story.«end»
+  pub ends : EndsAs story disk out err kept end
+
+-- the product of `audit`, of this image: how it differs from some image that is wanted
+abbrev pub IsComparison : List ℕ → ImageParts → Product → Type 0
+IsComparison image given product = (wanted : ImageParts) × (product ≡ compared image given wanted)
+
+-- the same of a file: it may be no image, for this failure
+abbrev pub IsAudited : List ℕ → Result ImageParts Failure → Story → Type 0
+IsAudited image (Ok given) story = IsEndOf (IsComparison image given) story.«end»
+IsAudited image (Err failure) story = story ≡ stopped image failure
+
+-- how `audit` ends: there is something that the store has under the name of the image, or nothing; and where the store
+-- tells its files, these lead it
+pub record Audits (image : List ℕ) (words : ProgramWords) (disk : Disk) (out err : Stream) (kept : List TaggedMemory) (end : Result Unit Failure) : Type 0 where
+  pub file : Option (List ℕ)
+  pub story : Story
+  pub is_story : IfSome disk.old (λ store. (file ≡ file_in store image) × (story ≡ audit_story image words file store))
+  pub audited : IsAudited image (image_in file) story
   pub ends : EndsAs story disk out err kept end
 
 -- what a store has under these words, where it tells its files
@@ -228,6 +291,9 @@ Ends (Ok (Show image)) disk out err kept end = Shows image disk out err kept end
 Ends (Ok (Load words)) disk out err kept end = Loads words disk out err kept end
 Ends (Ok (Link words)) disk out err kept end = Links words disk out err kept end
 Ends (Ok (Demo number)) disk out err kept end = Demos number disk out err kept end
+Ends (Ok (Init words)) disk out err kept end = Inits words disk out err kept end
+Ends (Ok (Reach image slot)) disk out err kept end = Reaches image slot disk out err kept end
+Ends (Ok (Audit image words)) disk out err kept end = Audits image words disk out err kept end
 Ends (Err failure) disk out err kept end = Fails failure disk out err kept end
 
 abbrev pub end_status : Result Unit Failure → ℕ
@@ -250,7 +316,7 @@ with_answer store (Some file) = with_file store file.0 file.1
 pub record Gave (answer : Answer) (store : Store) (disk : Disk) (out err : Stream) (kept : List TaggedMemory) (status : ℕ) : Type 0 where
   pub is_status : status ≡ answer.status
   pub written : IsWritten out answer.output
-  pub says : Says err answer.lines
+  pub says : Says err (answer.notes ++ answer.last)
   pub files : disk.new ≡ Some (with_answer store answer.file)
   pub writes : IsKept disk.writes
   pub memories : kept ≡ answer.kept
@@ -258,13 +324,13 @@ pub record Gave (answer : Answer) (store : Store) (disk : Disk) (out err : Strea
 -- a run was to give this answer, and a write failed: the store has the files that it had
 pub record IsHalf (answer : Answer) (store : Store) (disk : Disk) (out err : Stream) (kept : List TaggedMemory) (status : ℕ) : Type 0 where
   pub is_status : status ≡ 11
-  pub succeeds : answer.status ≡ 0
+  pub succeeds : (answer.status ≡ 0) ⊎ (answer.status ≡ 15)
   pub rose : HasRisen out.faults ⊎ HasRisen disk.writes
   pub front : AppendsFront out.old out.new answer.output
   pub files : disk.new ≡ Some store
   pub writing : (disk.writing ≡ disk.old_writing) ⊎ ((name bytes : List ℕ) × (answer.file ≡ Some (name, bytes)) × WritesFront disk.writing name bytes)
   pub path : List ℕ
-  pub says : Says err (answer.lines ++ line_of path WriteFault ∷ [])
+  pub says : Says err (answer.notes ++ line_of path WriteFault ∷ [])
   pub memories : kept ≡ []
 
 -- over a store that tells its files, where no read failed and memory did not run out, a run gives the defined answer; it
@@ -284,13 +350,23 @@ output_count command disk out = out.faults
 abbrev pub IsPlain : Disk → Stream → List TaggedMemory → ℕ → Type 0
 IsPlain disk err kept status = (kept ≡ []) × (status ≡ 0 → IsStill err) × (status ≡ 12 → IsKept disk.reads)
 
--- `load` and `link` alone write a file, and they print nothing; `load` alone keeps memories and passes over refusals;
--- `demo` reads no file
+-- `load` and `link` alone write a file, and they print nothing; `load` alone keeps memories; `load`, `init` and `audit`
+-- alone pass over refusals; `demo` reads no file
 abbrev pub IsAside : Result Command Failure → Disk → Stream → Stream → List TaggedMemory → ℕ → Type 0
 IsAside (Ok (Load words)) disk out err kept status = IsStill out
 IsAside (Ok (Link words)) disk out err kept status = IsStill out × IsPlain disk err kept status
 IsAside (Ok (Demo number)) disk out err kept status = IsUntouched disk × IsKept disk.reads × IsPlain disk err kept status
+IsAside (Ok (Init words)) disk out err kept status = IsUntouched disk × (kept ≡ [])
+IsAside (Ok (Audit image words)) disk out err kept status = IsUntouched disk × (kept ≡ [])
 IsAside command disk out err kept status = IsUntouched disk × IsPlain disk err kept status
+
+abbrev pub IsReach : Result Command Failure → Type 0
+IsReach (Ok (Reach image slot)) = Unit {0}
+IsReach command = ⊥
+
+abbrev pub IsAudit : Result Command Failure → Type 0
+IsAudit (Ok (Audit image words)) = Unit {0}
+IsAudit command = ⊥
 
 -- the causes of the answers, over any store and any sinks
 pub record HasCauses (words : List (List ℕ)) (disk : Disk) (out err : Stream) (kept : List TaggedMemory) (status : ℕ) : Type 0 where
@@ -304,8 +380,11 @@ pub record HasCauses (words : List (List ℕ)) (disk : Disk) (out err : Stream) 
   -- a write fault has its count, and where the count rose it is the answer
   pub write_fault : status ≡ 11 → HasRisen (output_count (command_of words) disk out)
   pub write_rose : (output_count (command_of words) disk out).before < (output_count (command_of words) disk out).now → status ≡ 11
+  -- `reach` alone tells of a slot without a tagged word, and `audit` alone of an image that differs
+  pub no_word : status ≡ 14 → IsReach (command_of words)
+  pub differs : status ≡ 15 → IsAudit (command_of words)
   -- no command touches the output of another
   pub aside : IsAside (command_of words) disk out err kept status
-  -- nothing is created or written to standard output by other answers than 0 and 11, and nothing is kept but with 0
-  pub quiet : status ≢ 0 → status ≢ 11 → IsNothing disk out kept
+  -- nothing is created or written to standard output by other answers than 0, 11 and 15, and nothing is kept but with 0
+  pub quiet : status ≢ 0 → status ≢ 11 → status ≢ 15 → IsNothing disk out kept
   pub none_kept : status ≢ 0 → kept ≡ []

@@ -4,11 +4,12 @@ use Rattle.cap_mem.specs.Tagged.{TaggedMemory}
 use Rattle.cap_session.specs.declared.refusal.OpenRefusal.{OpenRefusal}
 use Rattle.purecap.specs.declared.faults.Failure.{Failure}
 
--- what a command gives: bytes on standard output, or a file of this name and these bytes, and the memories of what was
--- loaded
+-- what a command gives: bytes on standard output; or a file of this name and these bytes, and the memories of what was
+-- loaded; or bytes on standard output that say how the image of this path differs from the one that was wanted
 pub data Product : Type 0 where
   Printed : List ℕ → Product
   Saved : List ℕ → List ℕ → List TaggedMemory → Product
+  Differing : List ℕ → List ℕ → Product
 
 -- a failure, over the file of this path
 pub record Stop : Type 0 where

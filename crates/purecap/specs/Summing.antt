@@ -80,11 +80,6 @@ abbrev pub Tells : Halt → Stream → Failure → Type 0
 Tells halts.Memory err failure = (failure ≡ NoMemory) × Says err (line_of [] NoMemory ∷ [])
 Tells (halts.Stop stop) err failure = (failure ≡ stop.failure) × Says err (line_of stop.path stop.failure ∷ [])
 
--- these bytes were printed, or a front of them, and then there is a line
-abbrev pub PrintsTold : List ℕ → Stream → Stream → Result Unit Failure → Type 0
-PrintsTold bytes out err (Ok _) = IsWritten out bytes × IsStill err
-PrintsTold bytes out err (Err failure) = (failure ≡ WriteFault) × IsCut out bytes × Says err (line_of (codes "-") WriteFault ∷ [])
-
 -- ---- the objects
 
 -- three objects from this number on, under these names

@@ -10,11 +10,11 @@ ghost use Rattle.purecap.specs.Answer.{demo_text};
 ghost use Rattle.purecap.specs.Demo.{demo_linked, demo_store, demo_started, linked_bytes, linked_parts};
 ghost use Rattle.purecap.specs.LinkWords.{IsLink, link_meant};
 ghost use Rattle.purecap.specs.Run.{streamed, Disk, Demos, IsKept, IsUntouched};
-ghost use Rattle.purecap.specs.Summing.{after_three, is_input, is_lost as is_lost_in, is_starved as is_starved_in, three_objects as three_objects_of, two_objects as two_objects_of, summary_after, Begins, Gives, HaltsAs, HaltsBy, IsStarted, PrintsTold, Tells};
+ghost use Rattle.purecap.specs.Summing.{after_three, is_input, is_lost as is_lost_in, is_starved as is_starved_in, three_objects as three_objects_of, two_objects as two_objects_of, summary_after, Begins, Gives, HaltsAs, HaltsBy, IsStarted, Tells};
 
 use crate::faults::Failure;
 use crate::linking::{Stop, link_inputs};
-use crate::showing::write_output;
+use crate::printing::print;
 use crate::summary::summary;
 use crate::words::link::{LinkWords, owned};
 use cap_base::{MemFiles, Name, NoMemory, Sink};
@@ -74,22 +74,6 @@ pub fn demo<O: Sink, E: Sink>(
     match demo_summary(alloc, number) {
         Ok(text) => print(&text, out, err),
         Err(halt) => Err(end_with(halt, err)),
-    }
-}
-
-// Prints a summary. A failure is told.
-fn print<O: Sink, E: Sink>(text: &[u8], out: &mut O, err: &mut E) -> Result<(), Failure>
-    ensures { PrintsTold text.now
-        (streamed (O.told out.old) (O.told out.new) (O.faults out.old) (O.faults out.new))
-        (streamed (E.told err.old) (E.told err.new) (E.faults err.old) (E.faults err.new))
-        result }
-{
-    match write_output(out, text) {
-        Ok(()) => Ok(()),
-        Err(failure) => {
-            let _ = failure.tell(err, b"-");
-            Err(failure)
-        }
     }
 }
 

@@ -4,7 +4,7 @@ ghost use Rattle.std.specs.Prelude.{◌≡◌, ◌<◌, ◌≤◌, ◌++◌, cod
 ghost use Rattle.std.specs.Fmt.{digits, digit_glyph};
 ghost use Rattle.cap_base.specs.Check.{check_text_of};
 ghost use Rattle.cap_base.specs.Outside.{Sends, SendsNext};
-ghost use Rattle.purecap.specs.Faults.{status_of, line_of, check_line, limit_line, file_line, name_line, interval_line, full_line, failure_of};
+ghost use Rattle.purecap.specs.Faults.{status_of, line_of, check_line, limit_line, file_line, name_line, interval_line, full_line, word_line, failure_of};
 
 use cap_base::{Failed, Name, Sink, check_text, send, send_next};
 use cap_session::OpenCause;
@@ -34,6 +34,10 @@ pub enum Failure {
     WriteFault,
     /// There was not enough memory.
     NoMemory,
+    /// The image has no tagged word at this address.
+    NoWord { slot: u64 },
+    /// The image isn't the one that was wanted.
+    Differs,
 }
 
 impl Failure {
@@ -53,6 +57,8 @@ impl Failure {
             Failure::ReadFault => 10,
             Failure::WriteFault => 11,
             Failure::NoMemory => 12,
+            Failure::NoWord { .. } => 14,
+            Failure::Differs => 15,
         }
     }
 
@@ -78,6 +84,8 @@ impl Failure {
             Failure::ReadFault => tell_file(err, path, b": read fault\n"),
             Failure::WriteFault => tell_file(err, path, b": write fault\n"),
             Failure::NoMemory => send(err, b"purecap: out of memory\n"),
+            Failure::NoWord { slot } => tell_word(err, path, *slot),
+            Failure::Differs => tell_file(err, path, b": differs\n"),
         }
     }
 
@@ -184,6 +192,15 @@ fn tell_full<E: Sink>(err: &mut E, path: &[u8], asked: u64) -> Result<(), Failed
 {
     let cause = tell_file(err, path, b": full, asked 0x");
     let number = send_hex(err, cause, asked);
+    send_next(err, number, b"\n")
+}
+
+// The line of a slot without a tagged word.
+fn tell_word<E: Sink>(err: &mut E, path: &[u8], slot: u64) -> Result<(), Failed>
+    ensures { Sends (E.told err.old) (E.told err.new) (E.faults err.old) (E.faults err.new) (word_line path.now slot) result }
+{
+    let cause = tell_file(err, path, b": no tagged word at 0x");
+    let number = send_hex(err, cause, slot);
     send_next(err, number, b"\n")
 }
 

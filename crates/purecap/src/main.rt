@@ -5,9 +5,12 @@
 //! its words and files, and only a counted fault of the outside or want of memory stands in the place of it.
 //!
 //! - `given` takes the words from the system, and `words` says what they ask for; then each command has a function of
-//!   its own: `show` in `showing`, `load` in `loading`, `link` in `linking`, `demo` in `demo` and `summary`. What is hard about `load` is that the
-//!   refusals of calls may be passed over: each has its line at once, and all calls speak of the same files, since no
-//!   call changes the store.
+//!   its own: `show` in `showing`, `load` in `loading`, `link` in `linking`, `demo` in `demo` and `summary`, `init` in
+//!   `initial`, `reach` in `reaching`, `audit` in `auditing`.
+//! - `program` has what `load`, `init` and `audit` have in common: the start and the calls. What is hard about them is
+//!   that refusals of calls may be passed over: each has its line at once, and all calls speak of the same files, since
+//!   no call changes the store. `images` reads the image of a file, for `show`, `reach` and `audit`; `printing` and
+//!   `saving` write what a command gives.
 //! - `faults` has the status and the line of each failure. A line is written without memory.
 //! - `disk` has the real files and streams, the one part that is trusted: they tell no contents, so over them only the
 //!   causes by counts are proved.
@@ -15,12 +18,18 @@
 //! It knows no format: images stand in `cap_image`, sessions in `cap_session`, and the linker in `cap_link`.
 #![tactic(auto)]
 
+mod auditing;
 mod demo;
 mod disk;
 mod faults;
 mod given;
+mod images;
+mod initial;
 mod linking;
 mod loading;
+mod printing;
+mod program;
+mod reaching;
 mod running;
 mod saving;
 mod showing;

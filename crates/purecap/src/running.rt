@@ -3,13 +3,15 @@
 ghost use Rattle.std.specs.Prelude.{◌≡◌, []};
 ghost use Rattle.purecap.specs.Words.{command_of as command_in};
 ghost use Rattle.purecap.specs.Exact.{IsExactRun};
-ghost use Rattle.purecap.specs.Printing.{shown_path as shown_path_in};
-ghost use Rattle.purecap.specs.Run.{counted, streamed, stored, Disk, IsUntouched, IsKept, Runs, Answers, HasCauses, Ends, Shows, end_status as status_of_end};
+ghost use Rattle.purecap.specs.Run.{counted, streamed, stored, Runs, Answers, HasCauses, Ends, end_status as status_of_end};
 
+use crate::auditing::audit;
 use crate::demo::demo;
 use crate::faults::Failure;
+use crate::initial::init;
 use crate::linking::link;
 use crate::loading::load;
+use crate::reaching::reach;
 use crate::showing::show;
 use crate::words::{Command, command_of};
 use cap_base::{Files, Sink, Words};
@@ -56,7 +58,7 @@ pub fn run<F: Files, O: Sink, E: Sink>(
         (streamed (E.told err.old) (E.told err.new) (E.faults err.old) (E.faults err.new))
         kept.new.items result }
 
-    // `load` refuses no bounds of a file that `link` wrote, and the data of all such files that are loaded lie apart.
+    // No bounds of a file that `link` wrote are refused, and the data of all such files that are loaded lie apart.
     ensures exact { IsExactRun (command_in words.now) (F.told files.old) result }
 {
     exact_laws();
@@ -114,48 +116,18 @@ fn act<F: Files, O: Sink, E: Sink>(
         kept.new.items result }
 {
     match command_of(alloc, words) {
-        Ok(Command::Show { image }) => show_told(alloc, image.as_str(), files, out, err),
+        Ok(Command::Show { image }) => show(alloc, image.as_str(), files, out, err),
         Ok(Command::Load(words)) => load(alloc, &words, files, err, kept),
         Ok(Command::Link(words)) => link(alloc, &words, files, err),
         Ok(Command::Demo { number }) => demo(alloc, number, out, err),
+        Ok(Command::Init(words)) => init(alloc, &words, files, out, err),
+        Ok(Command::Reach { image, slot }) => reach(alloc, image.as_str(), slot, files, out, err),
+        Ok(Command::Audit { image, program }) => {
+            audit(alloc, image.as_str(), &program, files, out, err)
+        }
         Err(failure) => {
             let _ = failure.tell(err, b"");
             Err(failure)
         }
-    }
-}
-
-// Shows an image. A failure is told.
-fn show_told<F: Files, O: Sink, E: Sink>(
-    alloc: Global,
-    image: &str,
-    files: &mut F,
-    out: &mut O,
-    err: &mut E,
-) -> Result<(), Failure>
-    ensures { Shows image.now
-        (stored (F.told files.old) (F.told files.new) (F.writing files.old) (F.writing files.new)
-        (counted (F.read_faults files.old) (F.read_faults files.new))
-        (counted (F.write_faults files.old) (F.write_faults files.new)))
-        (streamed (O.told out.old) (O.told out.new) (O.faults out.old) (O.faults out.new))
-        (streamed (E.told err.old) (E.told err.new) (E.faults err.old) (E.faults err.new))
-        [] result }
-{
-    match show(alloc, image, files, out) {
-        Ok(()) => Ok(()),
-        Err(failure) => {
-            let _ = failure.tell(err, shown_path(image, &failure));
-            Err(failure)
-        }
-    }
-}
-
-// The file that the line of a failure names: the image, or standard output.
-fn shown_path<'a>(image: &'a str, failure: &Failure) -> &'a [u8]
-    ensures { result.now ≡ shown_path_in image.now failure.now }
-{
-    match failure {
-        Failure::WriteFault => b"-",
-        _ => image.as_bytes(),
     }
 }

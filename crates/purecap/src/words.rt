@@ -1,64 +1,66 @@
 //! What the words of the command line ask for.
 
-ghost use Rattle.std.specs.Prelude.{◌≡◌, map, true, false, IfOk, IfErr, codes, string_bytes, nat_lt, length};
-ghost use Rattle.std.specs.List.{list_any};
-ghost use Rattle.cap_base.specs.Steps.{gather};
+ghost use Rattle.std.specs.Prelude.{◌≡◌, map, true, false, IfOk, IfErr, codes, string_bytes};
 ghost use Rattle.cap_base.specs.Check.{number_of};
 ghost use Rattle.clap.specs.Words.{all_of, app_of, first_of, found_of, is_simple_and_free, rows_of, rule_of as rule_of_arg};
 ghost use Rattle.purecap.specs.declared.faults.Failure.TheVariants.{NoMemory};
-ghost use Rattle.purecap.specs.WordRules.{Meant, has_slash as has_slash_in, is_long as is_long_text, is_name as is_name_text, is_path as is_path_text, operand as operand_in, last_operands as last_operands_in, required_option as required_option_in, option_or as option_or_in, flag as flag_in, parsed, refuse as refuse_of, value_of as value_in, values_of as values_in};
-ghost use Rattle.purecap.specs.Words.{IsAccepted, call_meant, call_of as call_in, command_of as command_in, form_of as form_in, load_app, load_meant, load_of as load_in, load_words as load_words_in, meaning, rule_of as rule_in, show_app, show_of as show_in, show_words as show_words_in};
+ghost use Rattle.purecap.specs.WordRules.{Meant, has_slash as has_slash_in, is_long as is_long_text, is_name as is_name_text, is_path as is_path_text, operand as operand_in, required_option as required_option_in, parsed, refuse as refuse_of, value_of as value_in};
+ghost use Rattle.purecap.specs.ProgramWords.{program_meant};
+ghost use Rattle.purecap.specs.Words.{IsAccepted, audit_app, audit_of as audit_in, audit_words as audit_words_in, command_of as command_in, init_app, init_of as init_in, init_words as init_words_in, load_app, load_meant, load_of as load_in, load_words as load_words_in, meaning, reach_app, reach_of as reach_in, reach_words as reach_words_in, show_app, show_of as show_in, show_words as show_words_in};
 
 mod demo;
 pub(crate) mod link;
+pub(crate) mod program;
+mod slot;
 
 use crate::faults::Failure;
 use crate::words::demo::demo_number;
 use crate::words::link::{LinkWords, link_words};
-use cap_base::{Check, Words, is_plain};
-use cap_scope::Rule;
-use cap_session::Form;
+use crate::words::program::{ProgramWords, check_limits, check_paths, program_of, with_program};
+use crate::words::slot::slot_of;
+use cap_base::{Check, NoMemory, Words, is_plain};
 use clap::error::ErrorKind;
-use clap::{Arg, ArgAction, ArgMatches};
+use clap::{Arg, ArgMatches};
 use std::alloc::{AllocError, AllocFailed, Global};
 
 const LONGEST_PATH: usize = 255;
-
-const MOST_CALLS: usize = 64;
 
 /// What the program is asked for.
 #[derive(Debug, Drop)]
 pub enum Command {
     /// The report of the image in this file.
-    Show { image: String },
+    Show {
+        image: String,
+    },
     /// The image of a program that is loaded.
     Load(LoadWords),
     /// The file that is linked from others.
     Link(LinkWords),
     /// The summary of the objects that are made from this number.
-    Demo { number: u32 },
+    Demo {
+        number: u32,
+    },
+    /// The initial calls of a program that is loaded.
+    Init(ProgramWords),
+    /// What is reached from this slot of the image in this file.
+    Reach {
+        image: String,
+        slot: u64,
+    },
+    /// Where the image in this file is not that of a program that is loaded.
+    Audit {
+        image: String,
+        program: ProgramWords,
+    },
 }
 
-/// What `load` is asked for. Paths have 1 to 255 printable ASCII characters.
+/// What `load` is asked for. The path of the image has 1 to 255 printable ASCII characters.
 #[derive(Debug, Drop)]
 pub struct LoadWords {
     /// The path of the image to write.
     pub image: String,
-    /// The path of the directory of the libraries.
-    pub dir: String,
-    /// Which of the definitions of a name is chosen.
-    pub rule: Rule,
-    /// The path of the program.
-    pub main: String,
-    /// The libraries to open after the start, 64 at most.
-    pub calls: Vec<CallWord>,
-}
-
-/// A library to open: a name is a path without a slash.
-#[derive(Debug, Drop)]
-pub struct CallWord {
-    pub form: Form,
-    pub name: String,
+    /// The program to load.
+    pub program: ProgramWords,
 }
 
 /// What the words ask for.
@@ -95,6 +97,15 @@ fn named_command(alloc: Global, words: &Words) -> Result<Command, Failure>
             number: demo_number(alloc, words)?,
         });
     }
+    if command == "init" {
+        return init_words(alloc, words);
+    }
+    if command == "reach" {
+        return reach_words(alloc, words);
+    }
+    if command == "audit" {
+        return audit_words(alloc, words);
+    }
     Err(Failure::Usage)
 }
 
@@ -127,43 +138,98 @@ fn load_words(alloc: Global, words: &Words) -> Result<Command, Failure>
 {
     let texts = texts_of(alloc, words)?;
     let matches = parse(load_parser(alloc)?, &texts)?;
-    let calls = calls_of(alloc, &matches)?;
+    let program = program_of(alloc, &matches)?;
     load_of(LoadWords {
         image: String::from_str(alloc, value_of(&matches, "image"))?,
-        dir: String::from_str(alloc, value_of(&matches, "dir"))?,
-        rule: rule_of(&matches),
-        main: String::from_str(alloc, value_of(&matches, "main"))?,
-        calls,
+        program,
     })
 }
 
-// `load` of a program that was asked for in this form.
-#[tactic(auto, using(crate::proofs::Parsing::long_names), unfolding(crate::specs::Words::load_of))]
+// `load` of this program, into the image of this path.
+#[tactic(auto, unfolding(crate::specs::Words::load_of))]
 fn load_of(asked: LoadWords) -> Result<Command, Failure>
     ensures { Meant meaning result (load_in (load_meant asked)) }
 {
     refuse(!is_path(&asked.image), Failure::Usage)?;
-    refuse(!is_path(&asked.dir), Failure::Usage)?;
-    refuse(!is_path(&asked.main), Failure::Usage)?;
+    check_paths(&asked.program)?;
     refuse(is_long(&asked.image), limit(Check::PathLength))?;
-    refuse(is_long(&asked.dir), limit(Check::PathLength))?;
-    refuse(is_long(&asked.main), limit(Check::PathLength))?;
-    refuse(has_long_name(&asked.calls), limit(Check::PathLength))?;
-    refuse(are_too_many(&asked.calls), limit(Check::CallCount))?;
+    check_limits(&asked.program)?;
     Ok(Command::Load(asked))
 }
 
-// Whether the name of a call is too long.
-fn has_long_name(calls: &[CallWord]) -> bool
-    ensures { result ≡ list_any (λ call. is_long_text (string_bytes call.name)) calls.now }
+// The words of `init`.
+#[tactic(auto, unfolding(crate::specs::Words::init_words))]
+fn init_words(alloc: Global, words: &Words) -> Result<Command, Failure>
+    ensures { Meant meaning result (init_words_in words.now) }
 {
-    calls.iter().any(|call| is_long(&call.name))
+    let texts = texts_of(alloc, words)?;
+    let matches = parse(init_parser(alloc)?, &texts)?;
+    let program = program_of(alloc, &matches)?;
+    init_of(program)
 }
 
-fn are_too_many(calls: &[CallWord]) -> bool
-    ensures { result ≡ nat_lt 64 (length (map call_meant calls.now)) }
+// The initial calls of this program.
+#[tactic(auto, unfolding(crate::specs::Words::init_of))]
+fn init_of(program: ProgramWords) -> Result<Command, Failure>
+    ensures { Meant meaning result (init_in (program_meant program)) }
 {
-    calls.len() > MOST_CALLS
+    check_paths(&program)?;
+    check_limits(&program)?;
+    Ok(Command::Init(program))
+}
+
+// The words of `reach`.
+#[tactic(auto, unfolding(crate::specs::Words::reach_words))]
+fn reach_words(alloc: Global, words: &Words) -> Result<Command, Failure>
+    ensures { Meant meaning result (reach_words_in words.now) }
+{
+    let texts = texts_of(alloc, words)?;
+    let matches = parse(reach_parser(alloc)?, &texts)?;
+    reach_of(
+        alloc,
+        value_of(&matches, "image"),
+        value_of(&matches, "slot"),
+    )
+}
+
+// What is reached from this slot of the image in this file.
+#[tactic(auto, unfolding(crate::specs::Words::reach_of))]
+fn reach_of(alloc: Global, image: &str, word: &str) -> Result<Command, Failure>
+    ensures { Meant meaning result (reach_in image.now word.now) }
+{
+    refuse(!is_path(image), Failure::Usage)?;
+    let slot = slot_of(word)?;
+    refuse(is_long(image), limit(Check::PathLength))?;
+    Ok(Command::Reach {
+        image: String::from_str(alloc, image)?,
+        slot,
+    })
+}
+
+// The words of `audit`.
+#[tactic(auto, unfolding(crate::specs::Words::audit_words))]
+fn audit_words(alloc: Global, words: &Words) -> Result<Command, Failure>
+    ensures { Meant meaning result (audit_words_in words.now) }
+{
+    let texts = texts_of(alloc, words)?;
+    let matches = parse(audit_parser(alloc)?, &texts)?;
+    let program = program_of(alloc, &matches)?;
+    audit_of(alloc, value_of(&matches, "image"), program)
+}
+
+// `audit` of the image in this file, by this program.
+#[tactic(auto, unfolding(crate::specs::Words::audit_of))]
+fn audit_of(alloc: Global, image: &str, program: ProgramWords) -> Result<Command, Failure>
+    ensures { Meant meaning result (audit_in image.now (program_meant program)) }
+{
+    refuse(!is_path(image), Failure::Usage)?;
+    check_paths(&program)?;
+    refuse(is_long(image), limit(Check::PathLength))?;
+    check_limits(&program)?;
+    Ok(Command::Audit {
+        image: String::from_str(alloc, image)?,
+        program,
+    })
 }
 
 // The words as references.
@@ -210,10 +276,38 @@ fn load_parser<'a>(alloc: Global) -> Result<clap::Command<'a>, Failure>
 {
     let command = clap::Command::new(alloc, "load");
     let command = command.arg(required_option(alloc, "image", 'o'))?;
-    let command = command.arg(option_or(alloc, "dir", 'L', "."))?;
-    let command = command.arg(flag(alloc, "first-found"))?;
-    let command = command.arg(operand(alloc, "main"))?;
-    Ok(command.arg(last_operands(alloc, "call"))?)
+    with_program(alloc, command)
+}
+
+// `init [-L DIR] [--first-found] MAIN [CALL...]`
+#[tactic(auto, unfolding(crate::specs::Words::init_app))]
+fn init_parser<'a>(alloc: Global) -> Result<clap::Command<'a>, Failure>
+    ensures ok { IfOk result (λ command. app_of command ≡ init_app) }
+    ensures err { IfErr result (λ failure. failure ≡ Failure.NoMemory) }
+{
+    with_program(alloc, clap::Command::new(alloc, "init"))
+}
+
+// `reach IMAGE SLOT`
+#[tactic(auto, unfolding(crate::specs::Words::reach_app))]
+fn reach_parser<'a>(alloc: Global) -> Result<clap::Command<'a>, Failure>
+    ensures ok { IfOk result (λ command. app_of command ≡ reach_app) }
+    ensures err { IfErr result (λ failure. failure ≡ Failure.NoMemory) }
+{
+    let command = clap::Command::new(alloc, "reach");
+    let command = command.arg(operand(alloc, "image"))?;
+    Ok(command.arg(operand(alloc, "slot"))?)
+}
+
+// `audit IMAGE [-L DIR] [--first-found] MAIN [CALL...]`
+#[tactic(auto, unfolding(crate::specs::Words::audit_app))]
+fn audit_parser<'a>(alloc: Global) -> Result<clap::Command<'a>, Failure>
+    ensures ok { IfOk result (λ command. app_of command ≡ audit_app) }
+    ensures err { IfErr result (λ failure. failure ≡ Failure.NoMemory) }
+{
+    let command = clap::Command::new(alloc, "audit");
+    let command = command.arg(operand(alloc, "image"))?;
+    with_program(alloc, command)
 }
 
 fn operand<'a>(alloc: Global, id: &'a str) -> Arg<'a>
@@ -223,13 +317,6 @@ fn operand<'a>(alloc: Global, id: &'a str) -> Arg<'a>
     Arg::new(alloc, id).required(true)
 }
 
-fn last_operands<'a>(alloc: Global, id: &'a str) -> Arg<'a>
-    ensures rule { rule_of_arg result ≡ last_operands_in id.entry.now }
-    ensures local { result.global ≡ false }
-{
-    Arg::new(alloc, id).num_args(1..)
-}
-
 fn required_option<'a>(alloc: Global, id: &'a str, letter: char) -> Arg<'a>
     ensures rule { rule_of_arg result ≡ required_option_in id.entry.now letter }
     ensures local { result.global ≡ false }
@@ -237,89 +324,11 @@ fn required_option<'a>(alloc: Global, id: &'a str, letter: char) -> Arg<'a>
     Arg::new(alloc, id).short(letter).required(true)
 }
 
-fn option_or<'a>(alloc: Global, id: &'a str, letter: char, value: &'a str) -> Arg<'a>
-    ensures rule { rule_of_arg result ≡ option_or_in id.entry.now letter value.entry.now }
-    ensures local { result.global ≡ false }
-{
-    Arg::new(alloc, id).short(letter).default_value(value)
-}
-
-fn flag<'a>(alloc: Global, id: &'a str) -> Arg<'a>
-    ensures rule { rule_of_arg result ≡ flag_in id.entry.now }
-    ensures local { result.global ≡ false }
-{
-    Arg::new(alloc, id).long(id).action(ArgAction::SetTrue)
-}
-
 // The one value of an argument; the empty text where it has none, which is no path.
 fn value_of<'a>(matches: &ArgMatches<'a>, id: &str) -> &'a str
     ensures { result.now ≡ value_in (rows_of (found_of matches.now)) id.now }
 {
     matches.get_str(id).unwrap_or("")
-}
-
-// The rule by which definitions are chosen.
-fn rule_of(matches: &ArgMatches<'_>) -> Rule
-    ensures { result ≡ rule_in (rows_of (found_of matches.now)) }
-{
-    if value_of(matches, "first-found") == "true" {
-        Rule::First
-    } else {
-        Rule::NonWeak
-    }
-}
-
-// The calls that are asked for.
-fn calls_of(alloc: Global, matches: &ArgMatches<'_>) -> Result<Vec<CallWord>, Failure>
-    ensures { Meant (λ calls. map call_meant calls.items) result
-        (gather call_in (values_in (rows_of (found_of matches.now)) (codes "call"))) }
-{
-    match matches.get_strs("call") {
-        Some(words) => read_calls(alloc, words),
-        None => Ok(Vec::new(alloc)),
-    }
-}
-
-// The calls that these words are.
-fn read_calls(alloc: Global, words: &[&str]) -> Result<Vec<CallWord>, Failure>
-    ensures { Meant (λ calls. map call_meant calls.items) result (gather call_in (map (λ word. word.now) words.now)) }
-{
-    let mut calls = Vec::new(alloc);
-    for word in words {
-        let call = call_of(alloc, word)?;
-        calls.push(call)?;
-    }
-    Ok(calls)
-}
-
-// The call that a word is.
-#[tactic(auto, unfolding(crate::specs::Words::call_of))]
-fn call_of(alloc: Global, word: &str) -> Result<CallWord, Failure>
-    ensures { Meant call_meant result (call_in word.now) }
-{
-    let (form, name) = word.split_once(':').unwrap_or((word, ""));
-    let form = form_of(form)?;
-    refuse(!is_name(name), Failure::Usage)?;
-    Ok(CallWord {
-        form,
-        name: String::from_str(alloc, name)?,
-    })
-}
-
-// The form of a call, by what stands before the colon.
-fn form_of(word: &str) -> Result<Form, Failure>
-    ensures { result ≡ form_in word.now }
-{
-    if word == "open" {
-        return Ok(Form::Open);
-    }
-    if word == "global" {
-        return Ok(Form::Global);
-    }
-    if word == "try" {
-        return Ok(Form::Try);
-    }
-    Err(Failure::Usage)
 }
 
 // Whether a word is a path.
@@ -368,6 +377,16 @@ impl From<AllocError> for Failure {
     ghost from_gives = { λ _ failure. failure ≡ NoMemory };
 
     fn from(_: AllocError) -> Failure {
+        Failure::NoMemory
+    }
+}
+
+impl From<NoMemory> for Failure {
+    ghost use Rattle.purecap.specs.declared.faults.Failure.TheVariants as failures;
+
+    ghost from_gives = { λ _ failure. failure ≡ failures.NoMemory };
+
+    fn from(_: NoMemory) -> Failure {
         Failure::NoMemory
     }
 }

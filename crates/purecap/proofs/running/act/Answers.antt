@@ -5,7 +5,7 @@ use Rattle.purecap.proofs.WordFaults.{words_fail}
 use Rattle.purecap.proofs.running.act.Goals as goal
 
 pub returns-in-Ok-Show : goal.returns-in-Ok-Show
-returns-in-Ok-Show g c = rw ((c.in-Ok-Show.ensures {u = tt}).meaning, c.in-Ok-Show.field-0-is, c.requires) (rw c.as_str.ensures.value at c.show_told.ensures)
+returns-in-Ok-Show g c = rw ((c.in-Ok-Show.ensures {u = tt}).meaning, c.in-Ok-Show.field-0-is, c.requires) (rw c.as_str.ensures.value at c.show.ensures)
 
 pub returns-in-Ok-Link : goal.returns-in-Ok-Link
 returns-in-Ok-Link g c =

@@ -9,4 +9,4 @@ pub returns : goal.returns
 returns c =
     let are = rw c.memories.ensures at c.in_ok-addresses.ensures in
     let is = summary_is c.image_laws.ensures.objects c.image_laws.ensures.tags c.args.session.now c.requires c.args.number c.in_ok-addresses.addresses.items are in
-    rw (sym is) (rw (c.memories-2.ensures, c.deref.ensures.value, c.deref-2.ensures.value, c.in_ok-image.ensures) at c.summary_text.ensures)
+    rw (sym is) (rw (c.memories-2.ensures, c.deref.ensures.value, c.deref-2.ensures.value, c.in_ok-image.ensures.value) at c.summary_text.ensures)

@@ -1,0 +1,7 @@
+use Rattle.std.proofs.Common.{ap, ◌∙◌}
+use Rattle.clap.specs.Words.{is_simple_and_free}
+use Rattle.purecap.proofs.Parsing.{audit_simple}
+use Rattle.purecap.proofs.words.audit_words.Goals as goal
+
+pub parse-requires : goal.parse-requires
+parse-requires c = ap is_simple_and_free c.in_ok-audit_parser.ensures.ok ∙ audit_simple
