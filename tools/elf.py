@@ -216,12 +216,10 @@ def symbol_bytes(name_at: int, symbol: Symbol, section: int) -> bytes:
 
 
 def relocation_bytes(relocations: list[Relocation], symbols: list[Symbol]) -> bytes:
-    numbers = {symbol.name: number for number, symbol in reversed(list(enumerate(symbols, 1)))}
-
-    def number(symbol: str | int) -> int:
-        return symbol if isinstance(symbol, int) else numbers[symbol]
-
-    return b"".join(u64(r.offset, number(r.symbol) << 32 | r.kind, r.addend) for r in relocations)
+    numbers: dict[str | int, int] = {}
+    if any(isinstance(r.symbol, str) for r in relocations):
+        numbers = {symbol.name: number for number, symbol in reversed(list(enumerate(symbols, 1)))}
+    return b"".join(u64(r.offset, numbers.get(r.symbol, r.symbol) << 32 | r.kind, r.addend) for r in relocations)
 
 
 def tag_bytes(tags: list[tuple[int, int]]) -> bytes:
