@@ -18,11 +18,18 @@ run() {
     "$program" "$@" || exit 1
 }
 
-# Without a proof: `rt try` prints, behind what the program prints, its own last lines.
-try() {
-    (cd crates/purecap && rt try -- "$@") > "$folder/$1" 2>&1
-    grep -v '^checked: \|^run=' "$folder/$1" > "$folder/$1.printed"
-    grep -q '^run=ended status=0' "$folder/$1"
+# Both commands of one build. `rt try` prints, below a line `== NAME`, what each printed, and lines of its own.
+try_both() {
+    mkdir "$folder/cases"
+    touch "$folder/cases/show" "$folder/cases/demo"
+    printf 'show\napp.img\n' > "$folder/cases/show.args"
+    printf 'demo\n1\n' > "$folder/cases/demo.args"
+    (cd crates/purecap && rt try --cases "$folder/cases" --data "app.img=$root/examples/app.img") > "$folder/tried" 2>&1
+    grep -q '^cases=2 ended=2 ' "$folder/tried"
+}
+
+printed() {
+    sed -n "/^== $1\$/,/^case=/p" "$folder/tried" | grep -v '^== \|^case='
 }
 
 compare() {
@@ -48,14 +55,10 @@ if is_proved; then
     compare "$folder/report"
 else
     echo "compiling purecap, in a minute or two; NOTHING IS PROVED by this run: .ci/run proves it all, and leaves the program"
-    try show ../../examples/app.img &
-    showing=$!
-    try demo 1
-    demonstrated=$?
-    wait $showing && [ $demonstrated = 0 ] || { tail -n 20 "$folder/show" "$folder/demo"; exit 1; }
-    echo "\$ purecap show examples/app.img"
-    cat "$folder/show.printed"
+    try_both || { tail -n 20 "$folder/tried"; exit 1; }
     echo "\$ purecap demo 1"
-    cat "$folder/demo.printed"
-    compare "$folder/show.printed"
+    printed demo
+    echo "\$ purecap show examples/app.img"
+    printed show | tee "$folder/report"
+    compare "$folder/report"
 fi
