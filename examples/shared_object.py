@@ -9,10 +9,11 @@ from dataclasses import dataclass, field
 from pathlib import Path
 
 sys.path.insert(0, str(Path(__file__).resolve().parent.parent / "tools"))
-from elf import (CAPABILITY, DYNAMIC, ENTRIES, ENTRIES_SIZE, FUNCTION, FUNCTION_ENTRY, GLOBAL, HASH, LOAD, NEEDED, NOTYPE,
-                 NULL_TAG, OBJECT, READ_ONLY_ENTRY, RELOCATION, RELOCATIONS, RELOCATIONS_SIZE, RELOCATION_SIZE, RELRO,
-                 SHARED, SONAME, STRINGS, STRINGS_SIZE, SYMBOL, SYMBOLS, SYMBOL_SIZE, WRITABLE_ENTRY, Strings,
-                 file_header, hash_words, program_header, tag_bytes, u32, u64, up)  # noqa: E402, F401
+from elf import (CAPABILITY, DYNAMIC, ENTRIES, ENTRIES_SIZE, FUNCTION, FUNCTION_ENTRY, GLOBAL, HASH, LOAD, NEEDED,
+                 NOTYPE, NULL_TAG, OBJECT, READ_ONLY_ENTRY, RELOCATION, RELOCATIONS, RELOCATIONS_SIZE,
+                 RELOCATION_SIZE, RELRO, SHARED, SONAME, STRINGS, STRINGS_SIZE, SYMBOL, SYMBOLS, SYMBOL_SIZE,
+                 WRITABLE_ENTRY, Strings, file_header, hash_words, program_header, tag_bytes, u32, u64,
+                 up)  # noqa: E402, F401
 
 PAGE = 4096
 READ, CODE, WRITE = 4, 5, 6

@@ -3,11 +3,11 @@ objects or look at them."""
 from collections.abc import Iterator
 from dataclasses import dataclass
 
-from elf import (ABSOLUTE, ALIGN, ALLOCATED, BRANCH, CALL, CALL_PLAIN, CALL_PLT, CAPABILITY, COMMON, COMPRESSED, EXECUTABLE,
-                 FINI_ARRAY, FUNCTION, GLOBAL, GOT_HIGH, GROUP, IFUNC, INIT_ARRAY, JAL, LOCAL, NOBITS, NONE, NOTE, OBJECT,
-                 PCREL_HIGH, PCREL_LOW, PCREL_LOW_S, PREINIT_ARRAY, PROGBITS, REL, RELAX, RESERVED, SYMTAB_SHNDX, TABLE_HIGH,
-                 THREAD_LOCAL, TLS, UNDEFINED, WEAK, WORD_64, WRITABLE, RelocatableObject, Relocation, Section, Symbol,
-                 kind_name)
+from elf import (ABSOLUTE, ALIGN, ALLOCATED, BRANCH, CALL, CALL_PLAIN, CALL_PLT, CAPABILITY, COMMON, COMPRESSED,
+                 EXECUTABLE, FINI_ARRAY, FUNCTION, GLOBAL, GOT_HIGH, GROUP, IFUNC, INIT_ARRAY, JAL, LOCAL, NOBITS,
+                 NONE, NOTE, OBJECT, PCREL_HIGH, PCREL_LOW, PCREL_LOW_S, PREINIT_ARRAY, PROGBITS, REL, RELAX,
+                 RESERVED, SYMTAB_SHNDX, TABLE_HIGH, THREAD_LOCAL, TLS, UNDEFINED, WEAK, WORD_64, WRITABLE,
+                 RelocatableObject, Relocation, Section, Symbol, kind_name)
 
 LARGEST_ALIGNMENT, LARGEST_ZEROS, LONGEST_NAME = 65_536, 1 << 26, 255
 
@@ -22,7 +22,8 @@ THREAD_KINDS = {6, 7, 8, 9, 10, 11, 21, 22, 29, 30, 31, 32}
 class Class:
     """What a section is to the linker."""
     CODE, READ_ONLY, RELRO, DATA, ZEROS, CALLS, DROPPED = (
-        "code", "read-only data", "read-only data once it is relocated", "data", "zeros", "an array of calls", "dropped")
+        "code", "read-only data", "read-only data once it is relocated", "data", "zeros", "an array of calls",
+        "dropped")
 
 
 SPLIT = {Class.READ_ONLY, Class.RELRO, Class.DATA, Class.ZEROS}
@@ -150,8 +151,8 @@ def overlaps(o: RelocatableObject) -> Iterator[Finding]:
         reached, widest = 0, ""
         for (start, end), name in sorted(intervals.items()):
             if start < reached:
-                yield Finding(at(o.sections[number], start), f"{shown(name)} shares bytes with {shown(widest)}, and is not "
-                              "the same part of it")
+                yield Finding(at(o.sections[number], start),
+                              f"{shown(name)} shares bytes with {shown(widest)}, and is not the same part of it")
             if end > reached:
                 reached, widest = end, name
 
@@ -208,7 +209,7 @@ def plain_addresses(o: RelocatableObject) -> list[Finding]:
 
 def refusals(o: RelocatableObject) -> list[Finding]:
     """What the linker would refuse of the object, as far as the object alone says."""
-    found = [Finding(section.name or "a section", why) for section in o.sections[1:] if (why := why_not_section(section))]
+    found = [Finding(section.name, why) for section in o.sections[1:] if (why := why_not_section(section))]
     found += [Finding(section.name, "a group of sections") for section in o.sections if section.type == GROUP]
     found += [Finding(name_of(o, symbol), why) for symbol in o.symbols[1:] if (why := why_not_symbol(o, symbol))]
     found += overlaps(o)

@@ -3,10 +3,10 @@
 
     compare.py ONE OTHER        each an image, or the report of one that `purecap show` printed
 
-Objects are the same by their names. A word is told by its place in its object, and by what it reaches: the object of its
-definition, the place there, the length, the cursor, the rights, the seal and the symbol. What one image alone has is a
-line; a word that stands elsewhere in its object and reaches the same is no difference, but is counted. Status 0 where
-nothing differs, 1 where something does, 2 where a file can't be read."""
+Objects are the same by their names. A word is told by its place in its object, and by what it reaches: the object of
+its definition, the place there, the length, the cursor, the rights, the seal and the symbol. What one image alone has
+is a line; a word that stands elsewhere in its object and reaches the same is no difference, but is counted. Status 0
+where nothing differs, 1 where something does, 2 where a file can't be read."""
 import argparse
 import sys
 from collections import Counter

@@ -7,9 +7,9 @@
 
 Compile with `-fPIC -mno-relax` (clang --target=riscv64-linux-gnu, or riscv64-linux-gnu-gcc).
 
-WHAT COMES OUT IS FOR TRYING THE LINKER, NOT FOR RUNNING. The compiler's code still thinks that a pointer has 8 bytes: it
-loads 8 bytes from the table of capabilities, and steps through arrays of pointers by 8. What has no relocation is not
-known to be a pointer and stays as it is: null pointers in data, and variables that begin as zeros.
+WHAT COMES OUT IS FOR TRYING THE LINKER, NOT FOR RUNNING. The compiler's code still thinks that a pointer has 8 bytes:
+it loads 8 bytes from the table of capabilities, and steps through arrays of pointers by 8. What has no relocation is
+not known to be a pointer and stays as it is: null pointers in data, and variables that begin as zeros.
 
 What is changed: the two flags of the profile are set; each pointer in data becomes an aligned slot of 16 bytes with the
 relocation CAPABILITY, and what stands behind it moves, with symbols, sizes, addends and other relocations; so do arrays
@@ -27,11 +27,11 @@ from collections.abc import Iterator
 from dataclasses import dataclass, field, replace
 from pathlib import Path
 
-from elf import (CALL, CALL_PLAIN, CALL_PLT, CAPABILITY, FUNCTION, GOT_HIGH, GROUP, LOCAL, MERGED, NOTYPE, OBJECT,
-                 PURE_CAPABILITY, SECTION, STRINGS_FLAG, TABLE_HIGH, UNDEFINED, WORD_64, WRITABLE, Broken,
-                 RelocatableObject, Relocation, Section, Symbol, members_of, read_relocatable, relocatable, up, what_it_is)
-from accepted import (PASSED_OVER, SPLIT, Class, Finding, at, class_of, is_plain_name, kept_relocations, name_of,
-                     plain_addresses, refusals, told_of)
+from accepted import (PASSED_OVER, SPLIT, Class, Finding, at, class_of, is_plain_name, name_of, plain_addresses,
+                      refusals, told_of)
+from elf import (CALL, CALL_PLAIN, CALL_PLT, CAPABILITY, GOT_HIGH, GROUP, LOCAL, MERGED, OBJECT, PURE_CAPABILITY,
+                 SECTION, STRINGS_FLAG, TABLE_HIGH, UNDEFINED, WORD_64, WRITABLE, Broken, RelocatableObject,
+                 Relocation, Section, Symbol, members_of, read_relocatable, relocatable, up, what_it_is)
 
 SLOT, POINTER = 16, 8
 UNWINDING = (".eh_frame", ".gcc_except_table")
@@ -171,14 +171,15 @@ class Conversion:
             section = o.sections[number]
             addresses = any(record.kind == WORD_64 for record in o.relocations[number])
             if addresses and section.name.startswith(UNWINDING):
-                self.refused.append(Finding(section.name, "plain addresses in what unwinds the stack: compile with -fPIC"))
+                why = "plain addresses in what unwinds the stack: compile with -fPIC"
+                self.refused.append(Finding(section.name, why))
             elif addresses and class_of(section) == Class.READ_ONLY:
                 section.name = ".data.rel.ro" + section.name
                 section.flags = section.flags & ~(MERGED | STRINGS_FLAG) | WRITABLE
                 section.entry_size = 0
         for number, records in o.relocations.items():
             if self.is_kept(number):
-                o.relocations[number] = [replace(record, kind=self.kind(record, pointers[number])) for record in records]
+                o.relocations[number] = [replace(r, kind=self.kind(r, pointers[number])) for r in records]
         for section in o.sections:
             if class_of(section) == Class.CALLS:
                 section.flags |= WRITABLE
@@ -201,7 +202,7 @@ class Conversion:
     # -- where bytes go
 
     def lay(self) -> None:
-        """The layout of each section that has a pointer or is an array of calls, once the object is one that is taken."""
+        """The layout of each section that has a pointer or is an array of calls, once the object is taken."""
         if self.refused:
             return
         by_section: dict[int, list[Symbol]] = {}
@@ -251,8 +252,8 @@ class Conversion:
         moved = replace(record, offset=layout.moved(record.offset) if layout else record.offset)
         if not symbol.is_placed:
             if record.kind == CAPABILITY and record.addend and symbol.section == UNDEFINED and record.symbol:
-                self.warnings.append(Finding(at(section, record.offset), f"{record.addend} bytes into {symbol.name}, which "
-                                             "may be laid out otherwise where it is defined"))
+                why = f"{record.addend} bytes into {symbol.name}, which may be laid out otherwise where it is defined"
+                self.warnings.append(Finding(at(section, record.offset), why))
             return moved
         held = class_of(self.old.sections[symbol.section])
         if record.kind in (CAPABILITY, TABLE_HIGH) and held not in SPLIT:
@@ -309,8 +310,9 @@ class Conversion:
         sections = []
         for number in kept:
             section, layout = self.old.sections[number], self.layouts.get(number)
-            sections.append(replace(section, contents=bytes(layout.contents) if layout else section.contents, link=0, info=0,
-                                    alignment=max(section.alignment, SLOT) if layout else section.alignment))
+            if layout:
+                section = replace(section, contents=bytes(layout.contents), alignment=max(section.alignment, SLOT))
+            sections.append(replace(section, link=0, info=0))
         staying = [number for number, symbol in enumerate(symbols)
                    if number and (not symbol.is_placed or symbol.section in section_numbers)]
         added = [*self.labels.values(), *self.unnamed()]
@@ -406,7 +408,7 @@ def main() -> int:
     options = argparse.ArgumentParser(description=__doc__, formatter_class=argparse.RawDescriptionHelpFormatter)
     where = options.add_mutually_exclusive_group(required=True)
     where.add_argument("-o", metavar="OUT", type=Path, help="write the one object to OUT")
-    where.add_argument("-d", metavar="FOLDER", type=Path, help="write objects and members under their names into FOLDER")
+    where.add_argument("-d", metavar="FOLDER", type=Path, help="write objects and members by their names into FOLDER")
     where.add_argument("--check", action="store_true", help="write nothing; status 1 where anything is left")
     options.add_argument("--plain", metavar="SECTION", action="append", default=[], help="leave its addresses plain")
     options.add_argument("files", metavar="FILE", nargs="+", type=Path)
@@ -437,7 +439,8 @@ def main() -> int:
         print(f"{error.filename}: {error.strerror}", file=sys.stderr)
         return 1
     if not given.o:
-        print(f"{tell.done} {'in order' if given.check else 'converted'}, {tell.refused} refused, {tell.warned} warnings")
+        done = "in order" if given.check else "converted"
+        print(f"{tell.done} {done}, {tell.refused} refused, {tell.warned} warnings")
     return 1 if tell.refused or given.check and tell.warned else 0
 
 

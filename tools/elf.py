@@ -212,7 +212,8 @@ def hash_words(names: list[bytes]) -> list[int]:
 
 
 def symbol_bytes(name_at: int, symbol: Symbol, section: int) -> bytes:
-    return SYMBOL.pack(name_at, symbol.binding << 4 | symbol.kind, symbol.visibility, section, symbol.value, symbol.size)
+    return SYMBOL.pack(name_at, symbol.binding << 4 | symbol.kind, symbol.visibility, section, symbol.value,
+                       symbol.size)
 
 
 def relocation_bytes(relocations: list[Relocation], symbols: list[Symbol]) -> bytes:
@@ -231,7 +232,8 @@ def program_header(kind: int, flags: int, at: int, file_size: int, size: int, al
     return PROGRAM_HEADER.pack(kind, flags, at, at, at, file_size, size, alignment)
 
 
-def file_header(kind: int, program_headers: int, sections: int, sections_at: int, flags: int = PURE_CAPABILITY) -> bytes:
+def file_header(kind: int, program_headers: int, sections: int, sections_at: int,
+                flags: int = PURE_CAPABILITY) -> bytes:
     return b"\x7fELF\x02\x01\x01" + bytes(9) + FILE_HEADER.pack(
         kind, RISC_V, 1, 0, 64 if program_headers else 0, sections_at, flags, 64, 56 if program_headers else 0,
         program_headers, 64, sections, max(sections - 1, 0))
@@ -241,8 +243,8 @@ def relocatable(sections: list[Section], symbols: list[Symbol] = (),
                 relocations: dict[str | int, list[Relocation]] | None = None, symbols_at: int | None = None,
                 flags: int = PURE_CAPABILITY) -> Made:
     """A relocatable object: the header, the sections, a relocation section for each section that has some (by its name,
-    or its number from 1 on), symbols and names, and the section headers. The offsets: `header NAME`, `contents NAME` and
-    `records NAME` (its relocations) of a section, `symbol NAME` of a symbol."""
+    or its number from 1 on), symbols and names, and the section headers. The offsets: `header NAME`, `contents NAME`
+    and `records NAME` (its relocations) of a section, `symbol NAME` of a symbol."""
     numbers = {section.name: number for number, section in enumerate(sections, 1)}
     lists = {numbers[key] if isinstance(key, str) else key: records for key, records in (relocations or {}).items()}
     names, section_names = Strings(), Strings()
@@ -252,8 +254,8 @@ def relocatable(sections: list[Section], symbols: list[Symbol] = (),
     first_global = next((number for number, s in enumerate(symbols, 1) if s.binding != LOCAL), len(symbols) + 1)
     table_number = len(sections) + len(lists) + 1
     whole = [*sections,
-             *(Section(".rela" + sections[number - 1].name, relocation_bytes(records, symbols), 0, 8, RELA, table_number,
-                       number, 24) for number, records in lists.items()),
+             *(Section(".rela" + sections[number - 1].name, relocation_bytes(records, symbols), 0, 8, RELA,
+                       table_number, number, 24) for number, records in lists.items()),
              Section(".symtab", table, 0, 8, SYMTAB, table_number + 1, first_global, 24),
              Section(".strtab", names.contents, 0, 1, STRTAB), Section(".shstrtab", b"", 0, 1, STRTAB)]
     name_places = [section_names.place(section.name) for section in whole]

@@ -8,10 +8,10 @@
 
 The page has the address space with its objects, their code, read-only and writable parts, each word and the bounds of
 each capability to scale; a matrix of how many capabilities lead from one object to another, with which rights; and for
-a chosen word what it reaches, step by step. Names show on hover; a click on an object, a word, bounds or a number of the
-matrix looks closer. An image itself may stand in the place of its report.
+a chosen word what it reaches, step by step. Names show on hover; a click on an object, a word, bounds or a number of
+the matrix looks closer. An image itself may stand in the place of its report.
 
-With `--word` that word is chosen at first; with `--reached`, what `purecap reach` printed for it, the two must agree."""
+With `--word` that word is chosen at first; what `--reached` has, as `purecap reach` printed it, must agree with it."""
 import argparse
 import html
 import json
@@ -89,7 +89,7 @@ def ask_reached(words: list[Word], start: int, text: str) -> None:
 def main() -> int:
     options = argparse.ArgumentParser(description=__doc__, formatter_class=argparse.RawDescriptionHelpFormatter)
     options.add_argument("-o", metavar="PAGE", type=Path, required=True, help="the page that is written")
-    options.add_argument("--word", metavar="SLOT", type=lambda word: int(word, 16), help="the word that is chosen at first")
+    options.add_argument("--word", metavar="SLOT", type=lambda word: int(word, 16), help="the word chosen at first")
     options.add_argument("--reached", metavar="REACHED", type=Path, help="what `purecap reach` printed for that word")
     options.add_argument("--title", help="the page's title; without it, the file's name")
     options.add_argument("shown", metavar="SHOWN", type=Path, help="what `purecap show` printed, or an image")

@@ -17,10 +17,10 @@ import image
 from accepted import at, class_of, name_of, shown, told_of
 from elf import Broken, Section, Symbol, kind_name
 
-FILE_FIELDS = [(0, "magic"), (4, "class"), (5, "byte order"), (6, "ident version"), (7, "rest of e_ident"), (16, "e_type"),
-               (18, "e_machine"), (20, "e_version"), (24, "e_entry"), (32, "e_phoff"), (40, "e_shoff"), (48, "e_flags"),
-               (52, "e_ehsize"), (54, "e_phentsize"), (56, "e_phnum"), (58, "e_shentsize"), (60, "e_shnum"),
-               (62, "e_shstrndx")]
+FILE_FIELDS = [(0, "magic"), (4, "class"), (5, "byte order"), (6, "ident version"), (7, "rest of e_ident"),
+               (16, "e_type"), (18, "e_machine"), (20, "e_version"), (24, "e_entry"), (32, "e_phoff"), (40, "e_shoff"),
+               (48, "e_flags"), (52, "e_ehsize"), (54, "e_phentsize"), (56, "e_phnum"), (58, "e_shentsize"),
+               (60, "e_shnum"), (62, "e_shstrndx")]
 SECTION_FIELDS = [(0, "sh_name"), (4, "sh_type"), (8, "sh_flags"), (16, "sh_addr"), (24, "sh_offset"), (32, "sh_size"),
                   (40, "sh_link"), (44, "sh_info"), (48, "sh_addralign"), (56, "sh_entsize")]
 SEGMENT_FIELDS = [(0, "p_type"), (4, "p_flags"), (8, "p_offset"), (16, "p_vaddr"), (24, "p_paddr"), (32, "p_filesz"),
@@ -29,15 +29,19 @@ SYMBOL_FIELDS = [(0, "st_name"), (4, "st_info"), (5, "st_other"), (6, "st_shndx"
 RELOCATION_FIELDS = [(0, "r_offset"), (8, "r_info"), (16, "r_addend")]
 ENTRY_FIELDS = [(0, "location"), (8, "object"), (16, "offset"), (24, "size"), (32, "permissions")]
 TAG_FIELDS = [(0, "d_tag"), (8, "d_val")]
-TAGS = {0: "NULL", 1: "NEEDED", 2: "PLTRELSZ", 4: "HASH", 5: "STRTAB", 6: "SYMTAB", 7: "RELA", 8: "RELASZ", 9: "RELAENT",
-        10: "STRSZ", 11: "SYMENT", 14: "SONAME", 16: "SYMBOLIC", 17: "REL", 20: "PLTREL", 22: "TEXTREL", 23: "JMPREL",
-        25: "INIT_ARRAY", 26: "FINI_ARRAY", 27: "INIT_ARRAYSZ", 28: "FINI_ARRAYSZ", 30: "FLAGS", 32: "PREINIT_ARRAY",
-        36: "RELR", 0x6FFFFEF5: "GNU_HASH", 0x6FFFFFF0: "VERSYM", 0x6FFFFFFC: "VERDEF", 0x6FFFFFFE: "VERNEED",
-        0x7000C000: "__cap_relocs", 0x7000C001: "size of __cap_relocs"}
+IMAGE_FIELDS = [(0, "magic"), (8, "version"), (12, "number of objects")]
+OBJECT_FIELDS = [(0, "base"), (8, "size"), (16, "length of its name"), (18, "name")]
+WORD_FIELDS = [(0, "granule"), (8, "owner"), (10, "length of the name"), (12, "name")]
+TAGS = {0: "NULL", 1: "NEEDED", 2: "PLTRELSZ", 4: "HASH", 5: "STRTAB", 6: "SYMTAB", 7: "RELA", 8: "RELASZ",
+        9: "RELAENT", 10: "STRSZ", 11: "SYMENT", 14: "SONAME", 16: "SYMBOLIC", 17: "REL", 20: "PLTREL", 22: "TEXTREL",
+        23: "JMPREL", 25: "INIT_ARRAY", 26: "FINI_ARRAY", 27: "INIT_ARRAYSZ", 28: "FINI_ARRAYSZ", 30: "FLAGS",
+        32: "PREINIT_ARRAY", 36: "RELR", 0x6FFFFEF5: "GNU_HASH", 0x6FFFFFF0: "VERSYM", 0x6FFFFFFC: "VERDEF",
+        0x6FFFFFFE: "VERNEED", 0x7000C000: "__cap_relocs", 0x7000C001: "size of __cap_relocs"}
 SEGMENTS = {1: "LOAD", 2: "DYNAMIC", 3: "INTERP", 4: "NOTE", 6: "PHDR", 7: "TLS", 0x6474E550: "GNU_EH_FRAME",
             0x6474E551: "GNU_STACK", 0x6474E552: "GNU_RELRO"}
 BINDINGS = {0: "local", 1: "global", 2: "weak"}
-KINDS = {0: "label", 1: "data", 2: "function", 3: "section", 4: "file", 5: "common", 6: "thread-local data", 10: "ifunc"}
+KINDS = {0: "label", 1: "data", 2: "function", 3: "section", 4: "file", 5: "common", 6: "thread-local data",
+         10: "ifunc"}
 
 
 def field_at(fields: list[tuple[int, str]], offset: int) -> str:
@@ -107,7 +111,8 @@ def in_relocatable(contents: bytes, header: elf.Header, offset: int) -> Iterator
     o = elf.read_relocatable(contents)
     for number, place in enumerate(header.sections):
         if place <= offset < place + 64:
-            yield f"section header {number} ({o.sections[number].name or 'null'}), {field_at(SECTION_FIELDS, offset - place)}"
+            name = o.sections[number].name or "null"
+            yield f"section header {number} ({name}), {field_at(SECTION_FIELDS, offset - place)}"
     for number, section in enumerate(o.sections):
         if isinstance(section.contents, bytes) and section.at <= offset < section.at + section.size:
             yield from in_section(o, number, offset)
@@ -177,7 +182,8 @@ class Shared:
             record, inside = divmod(offset - self.dynamic_at, 16)
             tag, value = self.tags[record]
             name = f" ('{shown(elf.text_of(self.body('names'), value))}')" if tag in (elf.NEEDED, elf.SONAME) else ""
-            yield f"dynamic entry {record}, {field_at(TAG_FIELDS, inside)}: {TAGS.get(tag, f'tag {tag:#x}')} {value:#x}{name}"
+            told = TAGS.get(tag, f"tag {tag:#x}")
+            yield f"dynamic entry {record}, {field_at(TAG_FIELDS, inside)}: {told} {value:#x}{name}"
         for table in self.tables:
             if table.at <= offset < table.at + table.size:
                 yield from self.in_table(table, offset - table.at)
@@ -218,8 +224,8 @@ class Shared:
             yield from (f"  the target is {found}" for found in covering(self.symbols, None, target))
         else:
             slot, kind, symbol, addend = elf.RELOCATION.unpack(body)
-            yield (f"relocation {record}, {field_at(RELOCATION_FIELDS, inside)}: {kind_name(kind)} of {self.target(symbol)} + "
-                   f"{addend}, slot {slot:#x}")
+            yield (f"relocation {record}, {field_at(RELOCATION_FIELDS, inside)}: {kind_name(kind)} of "
+                   f"{self.target(symbol)} + {addend}, slot {slot:#x}")
 
 
 # ---- Images
@@ -229,13 +235,13 @@ def in_image(contents: bytes, offset: int) -> Iterator[str]:
     front.take(8)
     version, count = front.unpack("<II")
     if offset < 16:
-        yield field_at([(0, "magic"), (8, "version"), (12, "number of objects")], offset)
+        yield field_at(IMAGE_FIELDS, offset)
     objects = []
     for number in range(count):
         start = front.at
         objects.append((*front.unpack("<QQ"), front.name()))
         if start <= offset < front.at:
-            inside = field_at([(0, "base"), (8, "size"), (16, "length of its name"), (18, "name")], offset - start)
+            inside = field_at(OBJECT_FIELDS, offset - start)
             base, size, name = objects[-1]
             yield f"record of object {number}, {inside}: {shown(name)}, {size:#x} bytes at {base:#x}"
     words = {word.granule: word for word in image.read_image(contents).words}
@@ -243,8 +249,8 @@ def in_image(contents: bytes, offset: int) -> Iterator[str]:
     def told(granule: int) -> Iterator[str]:
         word = words.get(granule)
         if word:
-            yield (f"  granule {granule:#x}: [{word.base:#x}, {word.top:#x}) {image.rights(word.permissions)} {word.seal}, "
-                   f"symbol {word.symbol}")
+            yield (f"  granule {granule:#x}: [{word.base:#x}, {word.top:#x}) {image.rights(word.permissions)} "
+                   f"{word.seal}, symbol {word.symbol}")
 
     for base, size, name in objects:
         inside = offset - front.at
@@ -267,7 +273,7 @@ def in_image(contents: bytes, offset: int) -> Iterator[str]:
             granule, owner = front.unpack("<QH")
             symbol = front.name()
             if start <= offset < front.at:
-                inside = field_at([(0, "granule"), (8, "owner"), (10, "length of the name"), (12, "name")], offset - start)
+                inside = field_at(WORD_FIELDS, offset - start)
                 owned = shown(objects[owner][2]) if owner < len(objects) else f"object {owner}"
                 yield f"word {number} of {shown(name)}, {inside}: owner {owned}, symbol {shown(symbol) or '-'}"
                 yield from told(granule)

@@ -13,6 +13,11 @@ if ! clang --print-targets 2> /dev/null | grep -q riscv64; then
     echo "skipped: no clang for riscv64"
     exit 0
 fi
+"$program" reach /nowhere 0x0 2> /dev/null
+if [ $? != 3 ]; then
+    echo "skipped: this program has no reach"
+    exit 0
+fi
 if [ $# -gt 1 ]; then
     folder=$2
     mkdir -p "$folder" || exit 2
