@@ -6,7 +6,7 @@ from dataclasses import dataclass
 from elf import (ABSOLUTE, ALIGN, ALLOCATED, BRANCH, CALL, CALL_PLAIN, CALL_PLT, CAPABILITY, COMMON, COMPRESSED,
                  EXECUTABLE, FINI_ARRAY, FUNCTION, GLOBAL, GOT_HIGH, GROUP, IFUNC, INIT_ARRAY, JAL, LOCAL, NOBITS,
                  NONE, NOTE, OBJECT, PCREL_HIGH, PCREL_LOW, PCREL_LOW_S, PREINIT_ARRAY, PROGBITS, REL, RELAX,
-                 RESERVED, SYMTAB_SHNDX, TABLE_HIGH, THREAD_LOCAL, TLS, UNDEFINED, WEAK, WORD_64, WRITABLE,
+                 RESERVED, SECTION, SYMTAB_SHNDX, TABLE_HIGH, THREAD_LOCAL, TLS, UNDEFINED, WEAK, WORD_64, WRITABLE,
                  RelocatableObject, Relocation, Section, Symbol, kind_name)
 
 LARGEST_ALIGNMENT, LARGEST_ZEROS, LONGEST_NAME = 65_536, 1 << 26, 255
@@ -145,7 +145,8 @@ def overlaps(o: RelocatableObject) -> Iterator[Finding]:
     """Symbols of data that share bytes without being equal, in each section the neighbours."""
     cuts: dict[int, dict[tuple[int, int], str]] = {}
     for symbol in o.symbols[1:]:
-        if symbol.is_placed and symbol.size and class_of(o.sections[symbol.section]) in SPLIT:
+        section = o.sections[symbol.section] if symbol.is_placed and symbol.section < len(o.sections) else None
+        if section and symbol.size and class_of(section) in SPLIT:
             cuts.setdefault(symbol.section, {}).setdefault((symbol.value, symbol.value + symbol.size), symbol.name)
     for number, intervals in cuts.items():
         reached, widest = 0, ""
@@ -186,7 +187,23 @@ def why_not_target(o: RelocatableObject, record: Relocation) -> str | None:
         return f"its target stands in {o.sections[symbol.section].name}, which is dropped"
     if record.kind == TABLE_HIGH and record.addend:
         return f"an addend of {record.addend} to a place in the table of capabilities"
+    if record.kind == CAPABILITY and symbol.is_placed and not is_inside(o, symbol, record.addend):
+        return f"{record.addend} bytes from it, and outside of it"
     return None
+
+
+def is_by_offset(symbol: Symbol) -> bool:
+    """Whether the symbol stands for its section, so that an addend may name any byte of it."""
+    return symbol.kind == SECTION or symbol.binding == LOCAL and not symbol.size
+
+
+def is_inside(o: RelocatableObject, symbol: Symbol, addend: int) -> bool:
+    """Whether a capability with this addend names a byte of its target, or the end of it. Of code nothing is asked."""
+    if symbol.section >= len(o.sections) or class_of(o.sections[symbol.section]) not in SPLIT:
+        return True
+    if is_by_offset(symbol):
+        return 0 <= symbol.value + addend <= o.sections[symbol.section].size
+    return 0 <= addend <= symbol.size
 
 
 def kept_relocations(o: RelocatableObject) -> Iterator[tuple[Section, str, Relocation]]:

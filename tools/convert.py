@@ -27,8 +27,8 @@ from collections.abc import Iterator
 from dataclasses import dataclass, field, replace
 from pathlib import Path
 
-from accepted import (PASSED_OVER, SPLIT, Class, Finding, at, class_of, is_plain_name, name_of, plain_addresses,
-                      refusals, told_of)
+from accepted import (PASSED_OVER, SPLIT, Class, Finding, at, class_of, is_by_offset, is_plain_name, name_of,
+                      plain_addresses, refusals, told_of)
 from elf import (CALL, CALL_PLAIN, CALL_PLT, CAPABILITY, GOT_HIGH, GROUP, LOCAL, MERGED, OBJECT, PURE_CAPABILITY,
                  SECTION, STRINGS_FLAG, TABLE_HIGH, UNDEFINED, WORD_64, WRITABLE, Broken, RelocatableObject,
                  Relocation, Section, Symbol, members_of, read_relocatable, relocatable, up, what_it_is)
@@ -258,28 +258,13 @@ class Conversion:
         held = class_of(self.old.sections[symbol.section])
         if record.kind in (CAPABILITY, TABLE_HIGH) and held not in SPLIT:
             return self.to_code(moved, section, record, held)
-        if record.kind == CAPABILITY:
-            self.ask_addend(section, record, symbol)
         if symbol.section in self.layouts:
             moved.addend = self.addend(section, record, symbol)
         return moved
 
-    def is_by_offset(self, symbol: Symbol) -> bool:
-        """Whether the symbol stands for its section, so that an addend may name any byte of it."""
-        return symbol.kind == SECTION or symbol.binding == LOCAL and not symbol.size
-
-    def ask_addend(self, section: Section, record: Relocation, symbol: Symbol) -> None:
-        """A capability names a byte of its target, or the end of it."""
-        if self.is_by_offset(symbol):
-            is_inside = 0 <= symbol.value + record.addend <= self.old.sections[symbol.section].size
-        else:
-            is_inside = 0 <= record.addend <= symbol.size
-        if not is_inside:
-            self.refuse(section, record, f"{record.addend} bytes from it, and outside of it")
-
     def addend(self, section: Section, record: Relocation, symbol: Symbol) -> int:
         layout, place = self.layouts[symbol.section], symbol.value + record.addend
-        if not self.is_by_offset(symbol) and record.addend == symbol.size and symbol.size:
+        if not is_by_offset(symbol) and record.addend == symbol.size and symbol.size:
             return layout.ends[symbol.value] - layout.moved(symbol.value)
         if not 0 <= place <= self.old.sections[symbol.section].size:
             self.refuse(section, record, f"{record.addend} bytes from it, and outside of its section")

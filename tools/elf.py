@@ -415,12 +415,11 @@ def members_of(archive: bytes) -> list[tuple[str, bytes]]:
             long_names = body
         elif name in ("/", "/SYM64/", "__.SYMDEF"):
             continue
-        elif name.startswith("#1/"):
+        elif name.startswith("#1/") and name[3:].isdigit():
             length = int(name[3:])
             members.append((body[:length].rstrip(b"\0").decode("latin-1"), body[length:]))
-        elif name.startswith("/"):
-            place = int(name[1:])
-            members.append((long_names[place:long_names.index(b"/", place)].decode("latin-1"), body))
+        elif name.startswith("/") and name[1:].isdigit():
+            members.append((text_of(long_names.replace(b"/\n", b"\0"), int(name[1:])), body))
         else:
             members.append((name.removesuffix("/"), body))
     return members

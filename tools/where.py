@@ -89,7 +89,7 @@ def in_section(o: elf.RelocatableObject, number: int, offset: int) -> Iterator[s
         symbol = o.symbols[record]
         yield f"symbol {record}, {field_at(SYMBOL_FIELDS, inside)}: {name_of(o, symbol)}"
         yield f"  {symbol_told(symbol, place_of(symbol, o.sections))}"
-    elif section.type == elf.RELA and section.info < len(o.sections):
+    elif section.type == elf.RELA and section.info < len(o.sections) and record < section.size // 24:
         relocation = elf.read_relocations(section.contents)[record]
         target = o.symbols[relocation.symbol]
         addend = f" + {relocation.addend}" if relocation.addend else ""
@@ -170,6 +170,11 @@ class Shared:
         table = next((t for t in self.tables if t.name == name), None)
         return elf.cut(self.contents, table.at, table.size, f"the table of {name}") if table else b""
 
+    def whole(self, name: str, width: int) -> bytes:
+        """The whole records of a table."""
+        body = self.body(name)
+        return body[:len(body) // width * width]
+
     def target(self, number: int) -> str:
         return shown(self.symbols[number].name) if 0 < number < len(self.symbols) else "no symbol"
 
@@ -196,10 +201,10 @@ class Shared:
                 yield from (f"  in the slot of {told}" for told in self.slots_at(address))
 
     def slots_at(self, address: int) -> Iterator[str]:
-        for slot, kind, symbol, addend in elf.RELOCATION.iter_unpack(self.body("relocations")):
+        for slot, kind, symbol, addend in elf.RELOCATION.iter_unpack(self.whole("relocations", 24)):
             if slot <= address < slot + (8 if kind in (elf.WORD_64, elf.RELATIVE) else 16):
                 yield f"{kind_name(kind)} of {self.target(symbol)} + {addend}"
-        for location, target, _, size, _ in elf.ENTRY.iter_unpack(self.body("entries")):
+        for location, target, _, size, _ in elf.ENTRY.iter_unpack(self.whole("entries", 40)):
             if location <= address < location + 16:
                 yield f"an entry of __cap_relocs, to {target:#x}, {size} bytes"
 
@@ -210,7 +215,10 @@ class Shared:
             yield f"{table.name}, byte {offset}{name}"
             return
         record, inside = divmod(offset, width)
-        body = self.body(table.name)[width * record:width * (record + 1)]
+        body = self.whole(table.name, width)[width * record:width * (record + 1)]
+        if not body:
+            yield f"{table.name}, behind the last whole record"
+            return
         if table.name == "symbols":
             symbol = self.symbols[record]
             yield f"symbol {record}, {field_at(SYMBOL_FIELDS, inside)}: {shown(symbol.name) or 'no name'}"
