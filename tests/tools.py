@@ -172,17 +172,17 @@ class Converter(unittest.TestCase):
             head = f"{name:16}{0:<12}{0:<6}{0:<6}{644:<8}{len(body):<10}`\n"
             return head.encode() + body + b"\n" * (len(body) % 2)
 
-        long_names = b"a_member_with_a_long_name.o/\n"
+        long_names = b"a_member_with_a_long_name.o/\nanother_with_a_long_name.o/\n"
         archive = (b"!<arch>\n" + member("/", bytes(4)) + member("//", long_names) + member("m.o/", MIXED)
-                   + member("/0", MIXED) + member("m.o/", MIXED) + member("notes/", b"text"))
+                   + member("/0", MIXED) + member("/29", MIXED) + member("m.o/", MIXED) + member("notes/", b"text"))
         with tempfile.TemporaryDirectory() as folder:
             Path(folder, "l.a").write_bytes(archive)
             Path(folder, "out").mkdir()
             ended = tool("convert.py", "-d", Path(folder, "out"), Path(folder, "l.a"))
-            self.assertEqual(ended.stdout, "3 converted, 1 refused, 0 warnings\n")
+            self.assertEqual(ended.stdout, "4 converted, 1 refused, 0 warnings\n")
             self.assertIn("l.a(notes): refused: text (a linker script?) and no ELF file", ended.stderr)
             self.assertEqual(sorted(p.name for p in Path(folder, "out").iterdir()),
-                             ["a_member_with_a_long_name.o", "m.1.o", "m.o"])
+                             ["a_member_with_a_long_name.o", "another_with_a_long_name.o", "m.1.o", "m.o"])
             self.assertIn("use -d FOLDER", tool("convert.py", "-o", Path(folder, "x"), Path(folder, "l.a")).stderr)
 
 

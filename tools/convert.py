@@ -29,7 +29,7 @@ from pathlib import Path
 
 from accepted import (PASSED_OVER, SPLIT, Class, Finding, at, class_of, is_by_offset, is_plain_name, name_of,
                       plain_addresses, refusals, told_of)
-from elf import (CALL, CALL_PLAIN, CALL_PLT, CAPABILITY, GOT_HIGH, GROUP, LOCAL, MERGED, OBJECT, PURE_CAPABILITY,
+from elf import (CALL, CALL_PLAIN, CALL_PLT, CAPABILITY, GOT_HIGH, GROUP, LOCAL, MERGED, NULL, OBJECT, PURE_CAPABILITY,
                  SECTION, STRINGS_FLAG, TABLE_HIGH, UNDEFINED, WORD_64, WRITABLE, Broken, RelocatableObject,
                  Relocation, Section, Symbol, members_of, read_relocatable, relocatable, up, what_it_is)
 
@@ -162,7 +162,7 @@ class Conversion:
         groups = sum(section.type == GROUP for section in o.sections)
         if groups:
             self.warnings.append(Finding("groups", f"{groups} groups of sections are dissolved: each copy stays"))
-        o.sections = [replace(section, kind=UNDEFINED) if section.type == GROUP else section for section in o.sections]
+        o.sections = [replace(section, kind=NULL) if section.type == GROUP else section for section in o.sections]
         for symbol in o.symbols:
             if symbol.binding == LOCAL and not is_plain_name(symbol.name):
                 symbol.name = "".join(c if " " <= c <= "~" else "_" for c in symbol.name)[:255]
@@ -341,52 +341,76 @@ class Given:
     contents: bytes
 
 
-def given_objects(paths: list[Path]) -> Iterator[Given]:
-    for path in paths:
-        contents = path.read_bytes()
-        if what_it_is(contents) == "an archive":
-            for name, body in members_of(contents):
-                yield Given(f"{path}({name})", name, body)
-        else:
-            yield Given(str(path), path.name, contents)
+def objects_of(path: Path, takes_archives: bool) -> list[Given]:
+    contents = path.read_bytes()
+    if what_it_is(contents) != "an archive":
+        return [Given(str(path), path.name, contents)]
+    if not takes_archives:
+        raise Broken("an archive: use -d FOLDER, which takes each member")
+    return [Given(f"{path}({name})", name, body) for name, body in members_of(contents)]
 
 
-class Teller:
-    """Says what happened, and counts."""
+class Run:
+    """One run of the command: what it does with each object, what it says, and how many there were."""
 
-    def __init__(self) -> None:
+    def __init__(self, given: argparse.Namespace) -> None:
+        self.given = given
+        self.taken: set[str] = set()
         self.done = self.refused = self.warned = 0
+
+    def take(self, path: Path) -> None:
+        try:
+            for o in objects_of(path, not self.given.o):
+                self.take_object(o)
+        except (Broken, OSError) as why:
+            self.refuse(str(path), [why.strerror if isinstance(why, OSError) else why])
+
+    def take_object(self, o: Given) -> None:
+        try:
+            if self.given.check:
+                self.check(o)
+            else:
+                self.convert(o)
+        except Refused as refused:
+            self.refuse(o.told, refused.findings)
+        except Broken as broken:
+            self.refuse(o.told, [broken])
+
+    def convert(self, o: Given) -> None:
+        made = convert(o.contents, set(self.given.plain))
+        self.warn(o, made.warnings)
+        (self.given.o or self.given.d / self.free_name(o.name)).write_bytes(made.contents)
+        self.done += 1
+
+    def check(self, o: Given) -> None:
+        read = read_relocatable(o.contents)
+        self.warn(o, plain_addresses(read))
+        found = refusals(read)
+        if read.flags & PURE_CAPABILITY != PURE_CAPABILITY:
+            found.insert(0, Finding("header", "the flags of the profile are not set: not converted"))
+        if found:
+            self.refuse(o.told, found)
+        else:
+            self.done += 1
+
+    def free_name(self, name: str) -> str:
+        """A name for a member; archives may have several of one name."""
+        path = Path(Path(name).name or "member")
+        free, number = path.name, 1
+        while free in self.taken:
+            free, number = f"{path.stem}.{number}{path.suffix}", number + 1
+        self.taken.add(free)
+        return free
 
     def warn(self, o: Given, warnings: list[Finding]) -> None:
         self.warned += len(warnings)
         for warning in warnings:
             print(f"{o.told}: warning: {warning}", file=sys.stderr)
 
-    def refuse(self, told: str, findings: list[object]) -> None:
+    def refuse(self, told: str, why: list[object]) -> None:
         self.refused += 1
-        for finding in findings:
+        for finding in why:
             print(f"{told}: refused: {finding}", file=sys.stderr)
-
-
-def check(given: Given, tell: Teller) -> None:
-    o = read_relocatable(given.contents)
-    tell.warn(given, plain_addresses(o))
-    found = refusals(o)
-    if o.flags & PURE_CAPABILITY != PURE_CAPABILITY:
-        found.insert(0, Finding("header", "the flags of the profile are not set: not converted"))
-    if found:
-        tell.refuse(given.told, found)
-    else:
-        tell.done += 1
-
-
-def free_name(folder: Path, name: str, taken: set[str]) -> Path:
-    """A name for a member; archives may have several of one name."""
-    path, number = Path(name), 1
-    while (given := path.name) in taken:
-        path, number = Path(f"{Path(name).stem}.{number}{Path(name).suffix}"), number + 1
-    taken.add(given)
-    return folder / given
 
 
 def main() -> int:
@@ -400,33 +424,13 @@ def main() -> int:
     given = options.parse_args()
     if given.o and len(given.files) != 1:
         options.error("-o takes one object; use -d FOLDER for more")
-    tell, taken = Teller(), set()
-    try:
-        for path in given.files:
-            if given.o and what_it_is(path.read_bytes()) == "an archive":
-                raise Broken("an archive: use -d FOLDER, which takes each member")
-            for o in given_objects([path]):
-                try:
-                    if given.check:
-                        check(o, tell)
-                        continue
-                    made = convert(o.contents, set(given.plain))
-                    tell.warn(o, made.warnings)
-                    (given.o or free_name(given.d, o.name, taken)).write_bytes(made.contents)
-                    tell.done += 1
-                except Refused as refused:
-                    tell.refuse(o.told, refused.findings)
-                except Broken as broken:
-                    tell.refuse(o.told, [broken])
-    except Broken as broken:
-        tell.refuse(str(path), [broken])
-    except OSError as error:
-        print(f"{error.filename}: {error.strerror}", file=sys.stderr)
-        return 1
+    run = Run(given)
+    for path in given.files:
+        run.take(path)
     if not given.o:
         done = "in order" if given.check else "converted"
-        print(f"{tell.done} {done}, {tell.refused} refused, {tell.warned} warnings")
-    return 1 if tell.refused or given.check and tell.warned else 0
+        print(f"{run.done} {done}, {run.refused} refused, {run.warned} warnings")
+    return 1 if run.refused or given.check and run.warned else 0
 
 
 if __name__ == "__main__":

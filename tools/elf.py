@@ -13,7 +13,7 @@ RELOCATABLE, EXECUTABLE_FILE, SHARED = 1, 2, 3
 RISC_V, PURE_CAPABILITY = 243, 0x30000
 FLAGS_AT = 48
 
-PROGBITS, SYMTAB, STRTAB, RELA, NOTE, NOBITS, REL = 1, 2, 3, 4, 7, 8, 9
+NULL, PROGBITS, SYMTAB, STRTAB, RELA, NOTE, NOBITS, REL = 0, 1, 2, 3, 4, 7, 8, 9
 INIT_ARRAY, FINI_ARRAY, PREINIT_ARRAY, GROUP, SYMTAB_SHNDX = 14, 15, 16, 17, 18
 WRITABLE, ALLOCATED, EXECUTABLE, MERGED, STRINGS_FLAG, THREAD_LOCAL, COMPRESSED = 1, 2, 4, 0x10, 0x20, 0x400, 0x800
 
@@ -349,7 +349,7 @@ def read_sections(contents: bytes, header: Header) -> list[Section]:
     for at in header.sections:
         name_at, kind, flags, _, place, size, link, info, alignment, entry_size = SECTION_HEADER.unpack(
             cut(contents, at, 64, "a section header"))
-        body = size if kind in (0, NOBITS) else cut(contents, place, size, f"section {len(sections)}")
+        body = size if kind in (NULL, NOBITS) else cut(contents, place, size, f"section {len(sections)}")
         sections.append(Section("", body, flags, alignment, kind, link, info, entry_size, place))
         names_at.append(name_at)
     if sections and header.names < len(sections) and isinstance(sections[header.names].contents, bytes):
@@ -412,14 +412,15 @@ def members_of(archive: bytes) -> list[tuple[str, bytes]]:
         body = cut(archive, at + 60, size, f"the archive's member at {at:#x}")
         at += 60 + size + size % 2
         if name == "//":
-            long_names = body
+            long_names = body + b"/\n"
         elif name in ("/", "/SYM64/", "__.SYMDEF"):
             continue
         elif name.startswith("#1/") and name[3:].isdigit():
             length = int(name[3:])
             members.append((body[:length].rstrip(b"\0").decode("latin-1"), body[length:]))
         elif name.startswith("/") and name[1:].isdigit():
-            members.append((text_of(long_names.replace(b"/\n", b"\0"), int(name[1:])), body))
+            place = int(name[1:])
+            members.append((long_names[place:long_names.find(b"/\n", place)].decode("latin-1"), body))
         else:
             members.append((name.removesuffix("/"), body))
     return members
