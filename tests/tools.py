@@ -423,6 +423,28 @@ class Picture(unittest.TestCase):
                 self.assertGreater(colours.get(colour, 0), 100, colour)
 
     @needs(BROWSER)
+    def test_clicks(self) -> None:
+        clicks = """<script>
+            const click = found => found.dispatchEvent(new Event("click"));
+            click(document.querySelectorAll(".object")[1]);
+            document.body.dataset.closer = byId("range").textContent;
+            for (const id of ["closer", "on", "back", "wider", "whole"]) click(byId(id));
+            document.body.dataset.whole = byId("range").textContent;
+            byId("filter").value = "greeting"; byId("filter").oninput();
+            document.body.dataset.filtered = byId("shown").textContent;
+            click(document.querySelectorAll(".cell")[1]);
+            document.body.dataset.cell = byId("shown").textContent;
+            click(document.querySelector("#words tr"));
+            document.body.dataset.reach = byId("reach").textContent;
+        </script>"""
+        with tempfile.TemporaryDirectory() as folder:
+            dom = self.browse(folder, page(image.read(ROOT / "examples" / "app.img"), "an image") + clicks, "--dump-dom")
+        self.assertNotIn("data-error", dom)
+        for told in ('data-closer="0x40004000 to 0x40009000"', 'data-whole="0x40000000 to 0x4000d000"',
+                     'data-filtered="1 words"', 'data-cell="1 words"', "reaches 1 of 7 words, itself included"):
+            self.assertIn(told, dom)
+
+    @needs(BROWSER)
     def test_many_words_in_a_browser(self) -> None:
         with tempfile.TemporaryDirectory() as folder:
             started = time.monotonic()
