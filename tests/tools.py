@@ -386,7 +386,7 @@ def many_words(count: int) -> image.Image:
 class Picture(unittest.TestCase):
     def browse(self, folder: str, html: str, *flags: str) -> str:
         Path(folder, "page.html").write_text(html)
-        ended = subprocess.run([BROWSER, "--headless", "--no-sandbox", "--disable-gpu", "--hide-scrollbars",
+        ended = subprocess.run([BROWSER, "--headless", "--no-sandbox", "--disable-gpu", "--disable-dev-shm-usage", "--hide-scrollbars",
                                 "--window-size=1300,900", "--virtual-time-budget=20000",
                                 f"--user-data-dir={folder}/user", *flags, f"file://{folder}/page.html"],
                                capture_output=True, text=True, timeout=120)
