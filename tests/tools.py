@@ -162,6 +162,10 @@ class Converter(unittest.TestCase):
             with self.subTest(why), self.assertRaisesRegex(Broken, re.escape(why)):
                 convert(bytes(contents))
 
+    def test_section_anchors_are_warned_of(self) -> None:
+        made = ordinary([data(bytes(8))], [Symbol(".LANCHOR0", ".data", 0, 0, 0, LOCAL)], {})
+        self.assertIn("section anchors", str(convert(made).warnings[0]))
+
     def test_groups_are_dissolved(self) -> None:
         made = ordinary([Section(".group", u32(1, 2), 0, 4, GROUP, 4, 1, 4), data(bytes(8))],
                         [Symbol("x", ".data", 0, 8, OBJECT, 2)], {})
@@ -205,7 +209,7 @@ first: return recs[x & 1].n + own;
 second: return tentative + *to_far;
 }
 """
-COMPILERS = {"clang": ["clang", "--target=riscv64-linux-gnu", "-march=rv64gc"], "gcc": ["riscv64-linux-gnu-gcc"]}
+COMPILERS = {"clang": ["clang", "--target=riscv64-linux-gnu", "-march=rv64gc"], "gcc": ["riscv64-linux-gnu-gcc", "-fno-section-anchors"]}
 
 
 def can_compile(compiler: list[str]) -> bool:
@@ -386,7 +390,8 @@ def many_words(count: int) -> image.Image:
 class Picture(unittest.TestCase):
     def browse(self, folder: str, html: str, *flags: str) -> str:
         Path(folder, "page.html").write_text(html)
-        ended = subprocess.run([BROWSER, "--headless", "--no-sandbox", "--disable-gpu", "--disable-dev-shm-usage", "--hide-scrollbars",
+        ended = subprocess.run([BROWSER, "--headless", "--no-sandbox", "--disable-gpu", "--disable-dev-shm-usage",
+                                "--hide-scrollbars",
                                 "--window-size=1300,900", "--virtual-time-budget=20000",
                                 f"--user-data-dir={folder}/user", *flags, f"file://{folder}/page.html"],
                                capture_output=True, text=True, timeout=120)
@@ -438,7 +443,8 @@ class Picture(unittest.TestCase):
             document.body.dataset.reach = byId("reach").textContent;
         </script>"""
         with tempfile.TemporaryDirectory() as folder:
-            dom = self.browse(folder, page(image.read(ROOT / "examples" / "app.img"), "an image") + clicks, "--dump-dom")
+            html = page(image.read(ROOT / "examples" / "app.img"), "an image")
+            dom = self.browse(folder, html + clicks, "--dump-dom")
         self.assertNotIn("data-error", dom)
         for told in ('data-closer="0x40004000 to 0x40009000"', 'data-whole="0x40000000 to 0x4000d000"',
                      'data-filtered="1 words"', 'data-cell="1 words"', "reaches 1 of 7 words, itself included"):

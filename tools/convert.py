@@ -5,7 +5,7 @@
     convert.py -d FOLDER FILE...    objects, and each member of archives, under their names into FOLDER
     convert.py --check FILE...      writes nothing; tells what is left of plain addresses, and what `link` would refuse
 
-Compile with `-fPIC -mno-relax` (clang --target=riscv64-linux-gnu, or riscv64-linux-gnu-gcc).
+Compile with `-fPIC -mno-relax` (clang --target=riscv64-linux-gnu, or riscv64-linux-gnu-gcc -fno-section-anchors).
 
 WHAT COMES OUT IS FOR TRYING THE LINKER, NOT FOR RUNNING. The compiler's code still thinks that a pointer has 8 bytes:
 it loads 8 bytes from the table of capabilities, and steps through arrays of pointers by 8. What has no relocation is
@@ -35,6 +35,7 @@ from elf import (CALL, CALL_PLAIN, CALL_PLT, CAPABILITY, GOT_HIGH, GROUP, LOCAL,
 
 SLOT, POINTER = 16, 8
 UNWINDING = (".eh_frame", ".gcc_except_table")
+ANCHOR = ".LANCHOR"
 NEW_KINDS = {GOT_HIGH: TABLE_HIGH, CALL_PLAIN: CALL, CALL_PLT: CALL}
 
 
@@ -162,6 +163,9 @@ class Conversion:
         groups = sum(section.type == GROUP for section in o.sections)
         if groups:
             self.warnings.append(Finding("groups", f"{groups} groups of sections are dissolved: each copy stays"))
+        if any(symbol.name.startswith(ANCHOR) for symbol in o.symbols):
+            self.warnings.append(Finding("section anchors", "code may reach several variables from one place, and their "
+                                         "distances change: compile with -fno-section-anchors"))
         o.sections = [replace(section, kind=NULL) if section.type == GROUP else section for section in o.sections]
         for symbol in o.symbols:
             if symbol.binding == LOCAL and not is_plain_name(symbol.name):
