@@ -1,5 +1,6 @@
 #!/usr/bin/env python3
-"""Makes the mistakes of docs/FAULTS.md, and compares what the program says with the table there.
+"""Makes the mistakes of docs/FAULTS.md, and compares what the program says with the table there; and looks whether each
+text of a check stands in that document.
 
     tests/mistakes.py PROGRAM"""
 import re
@@ -31,9 +32,17 @@ BEFORE = ["link -o libgreet.so --shared libgreet.so greet.o",
 ROW = re.compile(r"\| ([^|]+) \| `([^`]+)` \| (\d+) \| (?:`([^`]+)`|-) \|")
 
 
+FAULTS = ROOT.joinpath("docs", "FAULTS.md").read_text()
+CHECKS = ROOT.joinpath("crates", "cap_base", "src", "check.rt").read_text()
+
+
+def unexplained() -> list[str]:
+    return [text for text in re.findall(r'"([^"]+)"', CHECKS) if f"`{text}`" not in FAULTS
+            and f"`limit {text}`" not in FAULTS]
+
+
 def rows() -> list[tuple[str, str, int, str]]:
-    text = ROOT.joinpath("docs", "FAULTS.md").read_text()
-    section = text.split("## Fifteen mistakes")[1].split("\n## ")[0]
+    section = FAULTS.split("## Fifteen mistakes")[1].split("\n## ")[0]
     return [(name, command, int(status), line or "") for name, command, status, line in ROW.findall(section)]
 
 
@@ -43,26 +52,33 @@ def run(program: Path, folder: str, command: str) -> tuple[int, str]:
     return ended.returncode, ended.stderr.decode("latin-1").strip()
 
 
+def said(program: Path, command: str) -> tuple[int, str]:
+    """The status and the line of a command, in a folder of its own with all files."""
+    with tempfile.TemporaryDirectory() as folder:
+        for file, contents in FILES.items():
+            Path(folder, file).write_bytes(contents)
+        Path(folder, "folder").mkdir()
+        for before in BEFORE:
+            status, line = run(program, folder, before)
+            if status:
+                sys.exit(f"{before}: status {status}, '{line}'")
+        return run(program, folder, command)
+
+
 def main() -> int:
     if len(sys.argv) != 2 or sys.argv[1].startswith("-"):
         print(__doc__)
         return 2
     program, wrong, made = Path(sys.argv[1]).resolve(), 0, rows()
+    for text in unexplained():
+        print(f"docs/FAULTS.md doesn't say what '{text}' means")
     for name, command, status, line in made:
-        with tempfile.TemporaryDirectory() as folder:
-            for file, contents in FILES.items():
-                Path(folder, file).write_bytes(contents)
-            Path(folder, "folder").mkdir()
-            for before in BEFORE:
-                if run(program, folder, before)[0]:
-                    print(f"{before}: it should end well")
-                    return 1
-            said = run(program, folder, command)
-        if said != (status, line):
-            print(f"{name}: {command}: status {said[0]}, '{said[1]}', in place of {status}, '{line}'")
+        ended = said(program, command)
+        if ended != (status, line):
+            print(f"{name}: {command}: status {ended[0]}, '{ended[1]}', in place of {status}, '{line}'")
             wrong += 1
     print(f"mistakes: {len(made) - wrong} of {len(made)} are told as docs/FAULTS.md has them")
-    return 1 if wrong or len(made) != 15 else 0
+    return 1 if wrong or unexplained() or len(made) != 15 else 0
 
 
 if __name__ == "__main__":

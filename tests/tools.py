@@ -209,7 +209,8 @@ first: return recs[x & 1].n + own;
 second: return tentative + *to_far;
 }
 """
-COMPILERS = {"clang": ["clang", "--target=riscv64-linux-gnu", "-march=rv64gc"], "gcc": ["riscv64-linux-gnu-gcc", "-fno-section-anchors"]}
+COMPILERS = {"clang": ["clang", "--target=riscv64-linux-gnu", "-march=rv64gc"],
+             "gcc": ["riscv64-linux-gnu-gcc", "-fno-section-anchors"]}
 
 
 def can_compile(compiler: list[str]) -> bool:

@@ -164,8 +164,8 @@ class Conversion:
         if groups:
             self.warnings.append(Finding("groups", f"{groups} groups of sections are dissolved: each copy stays"))
         if any(symbol.name.startswith(ANCHOR) for symbol in o.symbols):
-            self.warnings.append(Finding("section anchors", "code may reach several variables from one place, and their "
-                                         "distances change: compile with -fno-section-anchors"))
+            why = "code may reach several variables from one, whose distances change: compile with -fno-section-anchors"
+            self.warnings.append(Finding("section anchors", why))
         o.sections = [replace(section, kind=NULL) if section.type == GROUP else section for section in o.sections]
         for symbol in o.symbols:
             if symbol.binding == LOCAL and not is_plain_name(symbol.name):
