@@ -4,6 +4,7 @@
 Expected values are worked out by hand from docs/FORMATS.md. What needs a compiler, a reader of ELF files, a browser or
 the program is skipped with a word where that isn't there."""
 import io
+import os
 import re
 import shutil
 import struct
@@ -22,6 +23,7 @@ sys.path[:0] = [str(TESTS), str(TOOLS), str(ROOT / "examples")]
 import compare  # noqa: E402
 import image  # noqa: E402
 import objects  # noqa: E402
+import unproved  # noqa: E402
 import where  # noqa: E402
 from convert import Refused, convert  # noqa: E402
 from elf import (ALLOCATED, CALL, CALL_PLT, CAPABILITY, FLAGS_AT, GOT_HIGH, GROUP, INIT_ARRAY, LOCAL, OBJECT,
@@ -463,9 +465,21 @@ class Picture(unittest.TestCase):
             self.assertLess(time.monotonic() - started, 60)
 
 
+class Unproved(unittest.TestCase):
+    def test_paths_are_made_absolute(self) -> None:
+        here = os.getcwd()
+        for words, made in {
+            "link -o lib.so --shared lib.so a.o /b.o": f"link -o {here}/lib.so --shared lib.so {here}/a.o /b.o",
+            "load -o i app open:lib.so": f"load -L {here} -o {here}/i {here}/app open:lib.so",
+            "load -o i -L lib app": f"load -o {here}/i -L {here}/lib {here}/app",
+            "reach i 0x40": f"reach {here}/i 0x40", "demo 5": "demo 5",
+        }.items():
+            self.assertEqual(unproved.absolute(words.split()), made.split())
+
+
 class Help(unittest.TestCase):
     def test_each_tool_has_help(self) -> None:
-        for name in ("convert.py", "where.py", "picture.py", "compare.py"):
+        for name in ("convert.py", "where.py", "picture.py", "compare.py", "unproved.py"):
             ended = tool(name, "--help")
             self.assertEqual((ended.returncode, ended.stdout.startswith(f"usage: {name}")), (0, True))
 
