@@ -1,7 +1,7 @@
 #!/usr/bin/env bash
 # Shows an image. With the proved program, which the gate leaves, it links a program and two libraries from relocatable
-# objects, loads them, shows the image, and compares what is seen with what should be seen. Without it, the same source is
-# compiled and run unproved, on the image of these objects that the repository holds.
+# objects, loads them, shows the image, and compares what is seen with what should be seen. Without it, the same source
+# is compiled and run unproved, on the image of these objects that the repository holds.
 set -u
 cd "$(dirname "$0")/.." || exit 2
 root=$PWD
@@ -40,9 +40,11 @@ if is_proved; then
     cd "$root" || exit 2
     compare "$folder/report"
 else
-    echo "compiling purecap, in a minute or two; NOTHING IS PROVED by this run: .ci/run proves it all, and leaves the program"
-    printf 'demo 1\nshow examples/app.img\n' | tools/unproved.py > "$folder/printed" || { cat "$folder/printed"; exit 1; }
+    echo "compiling purecap, in a minute or two; NOTHING IS PROVED by this: .ci/run proves it all, and leaves the program"
+    printf 'demo 1\nshow examples/app.img\n' | tools/unproved.py > "$folder/printed"
+    ended=$?
     cat "$folder/printed"
+    [ $ended = 0 ] || exit 1
     sed '1,/^\$ purecap show/d' "$folder/printed" > "$folder/report"
     compare "$folder/report"
 fi
