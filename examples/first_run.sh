@@ -40,7 +40,7 @@ if is_proved; then
     cd "$root" || exit 2
     compare "$folder/report"
 else
-    echo "compiling purecap, in a minute or two; NOTHING IS PROVED by this: .ci/run proves it all, and leaves the program"
+    echo "compiling purecap, in a minute or two; this proves NOTHING: .ci/run proves it all, and leaves the program"
     printf 'demo 1\nshow examples/app.img\n' | tools/unproved.py > "$folder/printed"
     ended=$?
     cat "$folder/printed"
