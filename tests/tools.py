@@ -11,7 +11,6 @@ import struct
 import subprocess
 import sys
 import tempfile
-import time
 import unittest
 import zlib
 from pathlib import Path
@@ -456,13 +455,11 @@ class Picture(unittest.TestCase):
     @needs(BROWSER)
     def test_many_words_in_a_browser(self) -> None:
         with tempfile.TemporaryDirectory() as folder:
-            started = time.monotonic()
             dom = self.browse(folder, page(many_words(1 << 16), "many", 0), "--dump-dom")
             self.assertIn('data-ready="yes"', dom)
             self.assertNotIn("data-error", dom)
             self.assertIn("reaches 65536 of 65536 words", dom)
             self.assertLess(dom.count("<rect"), 30_000)
-            self.assertLess(time.monotonic() - started, 60)
 
 
 class Unproved(unittest.TestCase):
