@@ -3,35 +3,33 @@
 
 It has one segment with the symbol table, the hash table, the names and the dynamic section; the symbols are data of
 eight bytes, all exported, with names of about twenty characters."""
-import struct
 import sys
 from pathlib import Path
 
-sys.path.insert(0, str(Path(__file__).resolve().parent.parent / "examples"))
-from shared_object import hash_words  # noqa: E402
+sys.path.insert(0, str(Path(__file__).resolve().parent.parent / "tools"))
+from elf import (DYNAMIC, HASH, LOAD, NULL_TAG, SHARED, STRINGS, STRINGS_SIZE, SYMBOLS, SYMBOL_SIZE, Strings, Symbol,
+                 OBJECT, file_header, hash_words, program_header, symbol_bytes, tag_bytes, u32, up)  # noqa: E402
+
+READ_WRITE = 6
 
 
 def shared_object(count: int) -> bytes:
-    names = [b""] + [b"library_symbol_%06d" % i for i in range(1, count)]
-    strings, places = bytearray(b"\0"), [0]
-    for name in names[1:]:
-        places.append(len(strings))
-        strings += name + b"\0"
-    symbols_at = 64 + 2 * 56
-    hash_at = symbols_at + 24 * count
-    words = hash_words(names[1:])
-    strings_at = hash_at + 4 * len(words)
-    dynamic_at = (strings_at + len(strings) + 15) // 16 * 16
-    dynamic = [(4, hash_at), (5, strings_at), (6, symbols_at), (10, len(strings)), (11, 24), (0, 0)]
-    end = dynamic_at + 16 * len(dynamic)
-    header = b"\x7fELF\x02\x01\x01" + bytes(9) + struct.pack(
-        "<HHIQQQIHHHHHH", 3, 243, 1, 0, 64, 0, 0x30000, 64, 56, 2, 64, 0, 0)
-    load = struct.pack("<IIQQQQQQ", 1, 6, 0, 0, 0, end, end, 4096)
-    tables = struct.pack("<IIQQQQQQ", 2, 6, dynamic_at, dynamic_at, dynamic_at, 16 * len(dynamic), 16 * len(dynamic), 16)
+    names = [f"library_symbol_{i:06d}" for i in range(1, count)]
+    strings = Strings()
     symbols = bytes(24) + b"".join(
-        struct.pack("<IBBHQQ", place, 0x11, 0, 1, 8 * i % 4096, 8) for i, place in enumerate(places[1:]))
-    body = header + load + tables + symbols + struct.pack(f"<{len(words)}I", *words) + bytes(strings)
-    return body.ljust(dynamic_at, b"\0") + b"".join(struct.pack("<QQ", tag, value) for tag, value in dynamic)
+        symbol_bytes(strings.place(name), Symbol(name, value=8 * i % 4096, size=8, kind=OBJECT), 1)
+        for i, name in enumerate(names))
+    words = u32(*hash_words([name.encode() for name in names]))
+    symbols_at = 64 + 2 * 56
+    hash_at = symbols_at + len(symbols)
+    strings_at = hash_at + len(words)
+    dynamic_at = up(strings_at + len(strings.contents), 16)
+    dynamic = tag_bytes([(HASH, hash_at), (STRINGS, strings_at), (SYMBOLS, symbols_at),
+                         (STRINGS_SIZE, len(strings.contents)), (SYMBOL_SIZE, 24), (NULL_TAG, 0)])
+    end = dynamic_at + len(dynamic)
+    headers = (file_header(SHARED, 2, 0, 0) + program_header(LOAD, READ_WRITE, 0, end, end, 4096)
+               + program_header(DYNAMIC, READ_WRITE, dynamic_at, len(dynamic), len(dynamic), 16))
+    return (headers + symbols + words + strings.contents).ljust(dynamic_at, b"\0") + dynamic
 
 
 if __name__ == "__main__":

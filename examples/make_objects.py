@@ -6,8 +6,9 @@ The program has a table of two capabilities, one to a text and one to a counter,
 import sys
 from pathlib import Path
 
-from relocatable_object import (ALLOCATED, CALL, LOCAL, OBJECT, PCREL_LOW, TABLE_HIGH, Relocation, Section, Symbol, data,
-                                function, label, relocatable, text, thing, u32)
+sys.path.insert(0, str(Path(__file__).resolve().parent.parent / "tools"))
+from elf import (ALLOCATED, CALL, LOCAL, OBJECT, PCREL_LOW, TABLE_HIGH, Relocation, Section, Symbol, data, function, label,
+                 relocatable, text, thing, u32)  # noqa: E402
 
 NOP = u32(0x13)
 CALL_PLACE = u32(0x97, 0x80E7)  # auipc ra, 0; jalr ra, ra, 0: filled in by the linker

@@ -1,26 +1,22 @@
 """Builds shared objects as another linker might write them, and images: byte for byte as it is told. Nothing is checked,
-so that a file can be as false as a test needs it. Relocatable objects are those of the examples.
+so that a file can be as false as a test needs it. Relocatable objects and all records are those of the tools.
 
 It shares nothing with the program. The formats are the System V gABI (ELF-64) and RISC-V ELF psABI; the relocations to
 capabilities, `__cap_relocs` and the image are the project's own."""
-import struct
 import sys
 from dataclasses import dataclass
 from pathlib import Path
 
-sys.path.insert(0, str(Path(__file__).resolve().parent.parent / "examples"))
-from relocatable_object import (ABSOLUTE, ALIGN, ALLOCATED, BRANCH, CALL, COMMON, COPY, EXECUTABLE, HIDDEN,
-                                INIT_ARRAY, JAL, JUMP_SLOT, LOCAL, Made, NOBITS, NONE, PCREL_HIGH, PCREL_LOW,
-                                PROGBITS, PURE_CAPABILITY, RELA, RELATIVE, RISC_V, Relocation, SECTION, STRTAB,
-                                SYMTAB, Section, Strings, Symbol, TABLE_HIGH, UNDEFINED, WORD_64, WRITABLE, data,
-                                file_header, function, initial_calls, label, relocatable, relocation_bytes,
-                                symbol_bytes, text, thing, u16, u32, u64, zeros)  # noqa: E402, F401
-from shared_object import CAPABILITY, FUNCTION, GLOBAL, NOTYPE, OBJECT, WEAK, hash_words, up  # noqa: E402, F401
+sys.path[:0] = [str(Path(__file__).resolve().parent.parent / folder) for folder in ("tools", "examples")]
+from elf import (ABSOLUTE, ALIGN, ALLOCATED, BRANCH, CALL, CAPABILITY, COMMON, COPY, DYNAMIC, ENTRIES, ENTRIES_SIZE,
+                 EXECUTABLE, FUNCTION, GLOBAL, HASH, HIDDEN, INIT, INIT_ARRAY, INIT_SIZE, JAL, JUMP_SLOT, LOAD, LOCAL,
+                 NEEDED, NOBITS, NONE, NOTYPE, OBJECT, PCREL_HIGH, PCREL_LOW, PROGBITS, PURE_CAPABILITY, RELA, RELATIVE,
+                 RELOCATIONS, RELOCATIONS_SIZE, RELOCATION_SIZE, RELRO, RISC_V, SECTION, SONAME, STRINGS, STRINGS_SIZE,
+                 STRTAB, SYMBOLS, SYMBOL_SIZE, SYMTAB, TABLE_HIGH, UNDEFINED, WEAK, WORD_64, WRITABLE, Made, Relocation,
+                 Section, Strings, Symbol, data, file_header, function, hash_words, initial_calls, label, program_header,
+                 relocatable, relocation_bytes, symbol_bytes, text, thing, u16, u32, u64, up, zeros)  # noqa: E402, F401
 
 READ, READ_CODE, READ_WRITE = 4, 5, 6
-LOAD, DYNAMIC, RELRO = 1, 2, 0x6474E552
-NEEDED, HASH, STRINGS, SYMBOLS, RELOCATIONS, RELOCATIONS_SIZE, RELOCATION_SIZE = 1, 4, 5, 6, 7, 8, 9
-STRINGS_SIZE, SYMBOL_SIZE, SONAME, INIT, INIT_SIZE, ENTRIES, ENTRIES_SIZE = 10, 11, 14, 25, 27, 0x7000C000, 0x7000C001
 
 
 @dataclass
@@ -43,10 +39,6 @@ class Segment:
     flags: int
     file_size: int | None = None
     alignment: int = 4096
-
-
-def program_header(kind: int, flags: int, at: int, file_size: int, size: int, alignment: int) -> bytes:
-    return struct.pack("<IIQQQQQQ", kind, flags, at, at, at, file_size, size, alignment)
 
 
 THREE_SEGMENTS = (Segment(0, 0x1000, READ), Segment(0x1000, 0x1000, READ_CODE), Segment(0x2000, 0x2000, READ_WRITE))
