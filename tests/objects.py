@@ -21,6 +21,8 @@ READ, READ_CODE, READ_WRITE = 4, 5, 6
 LOAD, DYNAMIC, RELRO = 1, 2, 0x6474E552
 NEEDED, HASH, STRINGS, SYMBOLS, RELOCATIONS, RELOCATIONS_SIZE, RELOCATION_SIZE = 1, 4, 5, 6, 7, 8, 9
 STRINGS_SIZE, SYMBOL_SIZE, SONAME, INIT, INIT_SIZE, ENTRIES, ENTRIES_SIZE = 10, 11, 14, 25, 27, 0x7000C000, 0x7000C001
+FINI, FINI_SIZE = 26, 28
+UNSEALED, SENTRY = 0x3FFFF, 0x3FFFE
 
 
 @dataclass
@@ -107,6 +109,14 @@ class Word:
     metadata: int
     owner: int = 0
     name: str = ""
+
+
+def metadata(base: int, length: int, permissions: int, kind: int = UNSEALED, flag: int = 0) -> int:
+    """The upper half of a word of short bounds, as it stands in memory; its address is within the bounds or at their
+    end. The exponent is 0, and the bounds are their lower bits."""
+    assert length < 4096
+    fields = permissions << 48 | flag << 45 | kind << 27 | (base + length) % 2**12 << 14 | base % 2**14
+    return fields ^ 0x00001FFFFC018004
 
 
 @dataclass

@@ -12,6 +12,7 @@ import traceback
 from pathlib import Path
 
 import demo_rows
+import init_rows
 import linking_rows
 import loading_rows
 import object_rows
@@ -23,7 +24,7 @@ import word_rows
 from row import Tester, Wrong
 
 TABLES = [users_case, linking_rows, loading_rows, showing_rows, object_rows, shared_object_rows, word_rows,
-          demo_rows, outside_rows]
+          demo_rows, init_rows, outside_rows]
 HERE = Path(__file__).resolve().parent
 
 
