@@ -11,6 +11,7 @@ import tempfile
 import traceback
 from pathlib import Path
 
+import audit_rows
 import demo_rows
 import init_rows
 import linking_rows
@@ -25,7 +26,7 @@ import word_rows
 from row import Tester, Wrong
 
 TABLES = [users_case, linking_rows, loading_rows, showing_rows, object_rows, shared_object_rows, word_rows,
-          demo_rows, init_rows, reach_rows, outside_rows]
+          demo_rows, init_rows, reach_rows, audit_rows, outside_rows]
 HERE = Path(__file__).resolve().parent
 
 
