@@ -156,7 +156,8 @@ ROWS = [
     of_both("two bytes of a granule, and one of the next", both(m_memory=other_bytes(0x20, 0x2F, 0x30)),
             ("bytes", 0, MAIN + 0x20), ("bytes", 0, MAIN + 0x30)),
     of_both("another order of records", both(m=[M[1], M[0], M[2], M[3]]), ("order", 0, MAIN)),
-    of_both("another order in both objects, and a word", both(m=M[::-1], x=changed(X, 0, address=LIBRARY + 0x3001)[::-1]),
+    of_both("another order in both objects, and a word",
+            both(m=M[::-1], x=changed(X, 0, address=LIBRARY + 0x3001)[::-1]),
             ("word", 1, SLOT_X[0]), ("order", 0, MAIN), ("order", 1, LIBRARY)),
     of_both("another order and other bytes", both(m=M[::-1], m_memory=other_bytes(0x3FFF)),
             ("bytes", 0, MAIN + 0x3FF0), ("order", 0, MAIN)),
@@ -181,7 +182,8 @@ ROWS = [
     *(refused(*case) for case in REFUSED),
     *(refused_image(f"an image that is cut to {length} bytes", two[:length], f"malformed image end at {length:#x}")
       for length in CUTS),
-    *(refused_image("an image with " + name, two.but(changes), told) for name, changes, told in HEAD_CASES + WORD_CASES),
+    *(refused_image("an image with " + name, two.but(changes), told)
+      for name, changes, told in HEAD_CASES + WORD_CASES),
     refused_image("an image with a byte more", two + b"\0", f"malformed image tail at {len(two):#x}"),
     Row("audit: an image of more than 256 objects", {"i": two.but({12: u32(257)})}, [
         Run("audit i gone", 9, err="limit image objects")]),
