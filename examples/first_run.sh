@@ -28,6 +28,8 @@ run link -o app main.o counter.o libgreet.so
 run load -o app.img app open:libplugin.so
 run show app.img > shown
 cat shown
+run reach app.img 0x00000000400020c0
+run audit app.img app open:libplugin.so
 if tail -n +2 shown | cmp -s - "$root/examples/app.txt"; then
     echo "as it should be"
 else
