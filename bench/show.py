@@ -12,20 +12,27 @@ import subprocess
 import sys
 import tempfile
 import time
+from collections.abc import Callable
 from pathlib import Path
 
+BASE = 0x40000000
 METADATA = 0x007D000004099004  # 32 writable bytes, at the address modulo 2^14 of 0x1000
 
 
-def image(words: int) -> bytes:
-    """One object of `words` tagged granules."""
-    base, size = 0x40000000, 16 * words
-    body = b"".join(struct.pack("<QQ", base + 0x4000 * (i % 64) + 0x1000, METADATA) for i in range(words))
-    record = struct.pack("<QQH", base, size, 1) + b"a"
+def short(number: int) -> tuple[int, int]:
+    """The address and the metadata of a word with short bounds."""
+    return BASE + 0x4000 * (number % 64) + 0x1000, METADATA
+
+
+def image(words: int, word: Callable[[int], tuple[int, int]] = short) -> bytes:
+    """One object of `words` tagged granules: the address and the metadata of each by its number."""
+    size = 16 * words
+    body = b"".join(struct.pack("<QQ", *word(i)) for i in range(words))
+    record = struct.pack("<QQH", BASE, size, 1) + b"a"
     return b"PURECAPI" + struct.pack("<II", 1, 1) + record + body + b"\xff" * (size // 128)
 
 
-def run(command: list[str], output: Path, folder: Path | None = None) -> tuple[float, int]:
+def run(command: list[str | Path], output: Path, folder: Path | None = None) -> tuple[float, int]:
     """Wall time in seconds and peak memory in bytes of one run in a folder, its output in a file."""
     with output.open("wb") as out:
         start = time.perf_counter()
@@ -38,7 +45,8 @@ def run(command: list[str], output: Path, folder: Path | None = None) -> tuple[f
     return spent, usage.ru_maxrss * 1024
 
 
-def least(command: list[str], output: Path, runs: int) -> tuple[float, int]:
+def least(command: list[str | Path], output: Path, runs: int) -> tuple[float, int]:
+    """The least wall time and the greatest peak memory of so many runs."""
     results = [run(command, output) for _ in range(runs)]
     return min(seconds for seconds, _ in results), max(peak for _, peak in results)
 

@@ -36,6 +36,8 @@ if is_proved; then
     run load -o app.img app open:libplugin.so
     run show app.img > shown
     cat shown
+    run reach app.img 0x00000000400020c0
+    run audit app.img app open:libplugin.so
     tail -n +2 shown > report
     cd "$root" || exit 2
     compare "$folder/report"

@@ -45,12 +45,17 @@ expect "a word of 300 bytes" 9 "purecap: limit path or name" "$program" show "$(
 expect "a word of 100,000 bytes" 9 "purecap: limit path or name" "$program" show "$(many a 100000)"
 # shellcheck disable=SC2046
 expect "65 calls" 9 "purecap: limit calls or inputs" "$program" load -o i app $(many 'open:a ' 65)
+expect "a slot that isn't UTF-8" 2 "purecap: usage" "$program" reach empty $'0x\xff'
+expect "a slot of 100,000 digits" 2 "purecap: usage" "$program" reach empty "0x$(many 0 100000)"
 
 # Files that can't be read.
 expect "a missing file" 3 "purecap: gone: no such file" "$program" show gone
 expect "a file in a missing folder" 3 "purecap: gone/i: no such file" "$program" show gone/i
 expect "a folder" 10 "purecap: folder: read fault" "$program" show folder
 expect "a file as a folder" 10 "purecap: empty/i: read fault" "$program" show empty/i
+expect "a folder to reach in" 10 "purecap: folder: read fault" "$program" reach folder 0x0
+expect "a missing image to audit" 3 "purecap: gone: no such file" "$program" audit gone app
+expect "a folder to start" 10 "purecap: folder: read fault" "$program" init folder
 
 # Files that can't be written.
 expect "an output in a missing folder" 11 "purecap: gone/i: write fault" "$program" load -o gone/i app
@@ -62,6 +67,12 @@ expect "a full standard output" 11 "purecap: -: write fault" to_full show empty
 expect "a closed standard output" 11 "purecap: -: write fault" to_closed show empty
 expect "a full error output" 3 "" errors_to_full show gone
 expect "a closed error output" 3 "" errors_to_closed show gone
+expect "initial calls to a full standard output" 11 "purecap: -: write fault" to_full init app
+expect "initial calls to a closed standard output" 11 "purecap: -: write fault" to_closed init app
+expect "findings to a full standard output" 11 "purecap: -: write fault" to_full audit empty app
+expect "findings to a closed standard output" 11 "purecap: -: write fault" to_closed audit empty app
+expect "a slot without a word and a full error output" 14 "" errors_to_full reach empty 0x0
+expect "a slot without a word and a closed error output" 14 "" errors_to_closed reach empty 0x0
 
 # What is read and written.
 expect "a program that is loaded" 0 "" "$program" load -o app.img app open:libplugin.so
@@ -76,6 +87,36 @@ expect "an image in the place of another file" 0 "" "$program" load -o again.img
 cmp again.img alone.img || failed=1
 expect "a refusal that can't be told" 0 "" errors_to_closed load -o quiet.img app try:gone.so
 cmp quiet.img alone.img || failed=1
+
+# prints LINE..: the file of the last run's standard output must hold these lines alone
+prints() {
+    if ! printf '%s\n' "$@" | cmp -s - printed; then
+        echo "printed: $(cat printed)"
+        failed=1
+    fi
+}
+to_file() { "$program" "$@" > printed; }
+to_file_and_full() { "$program" "$@" > printed 2> /dev/full; }
+to_file_and_closed() { "$program" "$@" > printed 2>&-; }
+
+# What is reached, started and found.
+slot=0x00000000400020c0
+expect "reached words to a full standard output" 11 "purecap: -: write fault" to_full reach app.img "$slot"
+expect "reached words to a closed standard output" 11 "purecap: -: write fault" to_closed reach app.img "$slot"
+expect "a slot without a word" 14 "purecap: app.img: no tagged word at 0x1" "$program" reach app.img 0x1
+expect "words that are reached" 0 "" to_file reach app.img "$slot"
+{ grep -E '^cap 0x00000000(400020c0|40003000|40003010) ' shown; echo "reached 3 of 7"; } | cmp - printed || failed=1
+expect "a program that is started" 0 "" to_file init app open:libplugin.so
+prints "calls 0"
+expect "an image that is the program's" 0 "" to_file audit app.img app open:libplugin.so
+prints "findings 0"
+differs=("finding object object 2 at 0x0000000000000000" "findings 1")
+expect "an image of other calls" 15 "purecap: alone.img: differs" to_file audit alone.img app open:libplugin.so
+prints "${differs[@]}"
+expect "a difference that can't be told" 15 "" to_file_and_closed audit alone.img app open:libplugin.so
+prints "${differs[@]}"
+expect "a difference to a full error output" 15 "" to_file_and_full audit alone.img app open:libplugin.so
+prints "${differs[@]}"
 
 [ "$failed" = 0 ] && echo "the words, files and streams of the program: $told runs end as they should"
 exit $failed

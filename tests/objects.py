@@ -17,6 +17,8 @@ from elf import (ABSOLUTE, ALIGN, ALLOCATED, BRANCH, CALL, CAPABILITY, COMMON, C
                  relocatable, relocation_bytes, symbol_bytes, text, thing, u16, u32, u64, up, zeros)  # noqa: E402, F401
 
 READ, READ_CODE, READ_WRITE = 4, 5, 6
+FINI, FINI_SIZE = 26, 28
+UNSEALED, SENTRY = 0x3FFFF, 0x3FFFE
 
 
 @dataclass
@@ -99,6 +101,14 @@ class Word:
     metadata: int
     owner: int = 0
     name: str = ""
+
+
+def metadata(base: int, length: int, permissions: int, kind: int = UNSEALED, flag: int = 0) -> int:
+    """The upper half of a word of short bounds, as it stands in memory; its address is within the bounds or at their
+    end. The exponent is 0, and the bounds are their lower bits."""
+    assert length < 4096
+    fields = permissions << 48 | flag << 45 | kind << 27 | (base + length) % 2**12 << 14 | base % 2**14
+    return fields ^ 0x00001FFFFC018004
 
 
 @dataclass

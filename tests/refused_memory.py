@@ -14,7 +14,7 @@ from pathlib import Path
 EXAMPLES = Path(__file__).resolve().parent.parent / "examples"
 sys.path.insert(0, str(EXAMPLES))
 from make_program import NOP, app, libgreet, libplugin  # noqa: E402
-from shared_object import NOTYPE, Relocation, SharedObject, Symbol, written  # noqa: E402
+from shared_object import FUNCTION_ENTRY, NOTYPE, Relocation, SharedObject, Symbol, written  # noqa: E402
 import objects  # noqa: E402
 from objects import CALL, COMMON, data, function, relocatable, text, thing, zeros  # noqa: E402
 
@@ -56,12 +56,19 @@ first = relocatable(
 second = relocatable(
     [text(NOP), zeros(5001)],
     [function("helper", ".text", 0, 4), thing("count", COMMON, 8, 8), thing("buffer", ".bss", 0, 5001)])
+starting = objects.shared(
+    entries=[(0x2000, 0x1000, 0, 0, FUNCTION_ENTRY), (0x2010, 0x1004, 0, 0, FUNCTION_ENTRY)], needed=["libgreet.so"],
+    more_tags=[(objects.INIT, 0x2000), (objects.INIT_SIZE, 32)])
+words = [objects.Word(at, at + 16, objects.metadata(at + 16, 16, 0x7D)) for at in range(0x40000000, 0x40000FF0, 16)]
+chain = objects.image([objects.Mapped(0x40000000, "a", bytes(4096), words)])
 OBJECTS = {"app": written(app), "libgreet.so": written(libgreet), "libplugin.so": written(libplugin),
-           "libbad.so": written(bad), "first.o": first, "second.o": second}
+           "libbad.so": written(bad), "first.o": first, "second.o": second, "starting": starting, "chain.img": chain}
 OUT_OF_MEMORY = b"purecap: out of memory\n"
 RUNS = ["load -o app.img app open:libplugin.so", "load -o app.img app open:libplugin.so open:libbad.so",
         "load -o app.img app try:libbad.so open:libplugin.so", "link -o app.img first.o second.o",
-        "link -o app.img --shared first first.o second.o libgreet.so", "show shown.img", "demo 1"]
+        "link -o app.img --shared first first.o second.o libgreet.so", "show shown.img", "demo 1",
+        "init starting try:libbad.so", "reach chain.img 0x40000000", "audit shown.img app open:libplugin.so",
+        "audit shown.img app try:libbad.so"]
 
 
 def main() -> None:
@@ -92,7 +99,8 @@ def main() -> None:
             ample = run(words, -1)
             total = int(folder.joinpath("counted").read_text())
             same = starved = 0
-            lines = {b"", OUT_OF_MEMORY} | ({ample[2] + OUT_OF_MEMORY} if ample[0] == 0 else set())
+            passed_over = ample[2].splitlines(True)[:None if ample[0] == 0 else -1]
+            lines = {b"", OUT_OF_MEMORY, b"".join(passed_over) + OUT_OF_MEMORY}
             step = 1 + total // 400
             for refused in range(1, total + 1, step):
                 ended = run(words, refused)

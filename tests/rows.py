@@ -11,11 +11,14 @@ import tempfile
 import traceback
 from pathlib import Path
 
+import audit_rows
 import demo_rows
+import init_rows
 import linking_rows
 import loading_rows
 import object_rows
 import outside_rows
+import reach_rows
 import shared_object_rows
 import showing_rows
 import users_case
@@ -23,7 +26,7 @@ import word_rows
 from row import Tester, Wrong
 
 TABLES = [users_case, linking_rows, loading_rows, showing_rows, object_rows, shared_object_rows, word_rows,
-          demo_rows, outside_rows]
+          demo_rows, init_rows, reach_rows, audit_rows, outside_rows]
 HERE = Path(__file__).resolve().parent
 
 

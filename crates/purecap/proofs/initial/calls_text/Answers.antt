@@ -6,5 +6,5 @@ calls-requires-clause-spans c = rw (c.memories.ensures, c.objects.ensures.object
 
 pub report-requires : goal.report-requires
 report-requires c =
-    rw (c.names.ensures, c.as_slice.ensures, c.in_ok-calls.ensures, c.deref.ensures, c.objects.ensures.objects, c.memories.ensures)
-    (session_numbered c.args.session.now c.requires _ (rw c.deps.ensures at c.in_ok-order.ensures.inside))
+    rw (c.names.ensures, c.as_slice.ensures, c.in_ok-calls.ensures, c.objects.ensures.objects, c.memories.ensures)
+    (session_numbered c.args.session.now c.requires c.deref.result.now (rw c.deref.ensures.value (rw c.deps.ensures at c.in_ok-order.ensures.inside)))
