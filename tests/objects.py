@@ -21,8 +21,6 @@ READ, READ_CODE, READ_WRITE = 4, 5, 6
 LOAD, DYNAMIC, RELRO = 1, 2, 0x6474E552
 NEEDED, HASH, STRINGS, SYMBOLS, RELOCATIONS, RELOCATIONS_SIZE, RELOCATION_SIZE = 1, 4, 5, 6, 7, 8, 9
 STRINGS_SIZE, SYMBOL_SIZE, SONAME, INIT, INIT_SIZE, ENTRIES, ENTRIES_SIZE = 10, 11, 14, 25, 27, 0x7000C000, 0x7000C001
-FINI, FINI_SIZE = 26, 28
-UNSEALED, SENTRY = 0x3FFFF, 0x3FFFE
 
 
 @dataclass
@@ -109,6 +107,9 @@ class Word:
     metadata: int
     owner: int = 0
     name: str = ""
+
+
+UNSEALED, SENTRY = 0x3FFFF, 0x3FFFE
 
 
 def metadata(base: int, length: int, permissions: int, kind: int = UNSEALED, flag: int = 0) -> int:
