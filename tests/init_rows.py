@@ -1,12 +1,12 @@
 """Rows of `init`: the initial calls of a program and of what it opens, in their order, and each refusal."""
-from objects import (FINI, FINI_SIZE, FUNCTION, INIT, INIT_SIZE, WEAK, WORD_64, Made, Relocation, Sparse, Symbol,
-                     shared, thing)
+from objects import FUNCTION, INIT, INIT_SIZE, WEAK, WORD_64, Made, Relocation, Sparse, Symbol, shared, thing
 from shared_object import FUNCTION_ENTRY, WRITABLE_ENTRY
 from linking_rows import calls_first, calls_first_linked
 from loading_rows import asking, large_symbol, many_libraries, of_span
 from row import Row, Run
 from users_case import FILES
 
+FINI, FINI_SIZE = 26, 28
 SPAN = 0x4000               # of an object of three segments
 CODE, ARRAY = 0x1000, 0x2000
 

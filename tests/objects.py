@@ -17,8 +17,6 @@ from elf import (ABSOLUTE, ALIGN, ALLOCATED, BRANCH, CALL, CAPABILITY, COMMON, C
                  relocatable, relocation_bytes, symbol_bytes, text, thing, u16, u32, u64, up, zeros)  # noqa: E402, F401
 
 READ, READ_CODE, READ_WRITE = 4, 5, 6
-FINI, FINI_SIZE = 26, 28
-UNSEALED, SENTRY = 0x3FFFF, 0x3FFFE
 
 
 @dataclass
@@ -101,6 +99,9 @@ class Word:
     metadata: int
     owner: int = 0
     name: str = ""
+
+
+UNSEALED, SENTRY = 0x3FFFF, 0x3FFFE
 
 
 def metadata(base: int, length: int, permissions: int, kind: int = UNSEALED, flag: int = 0) -> int:
