@@ -5,7 +5,7 @@ use Rattle.cap_base.specs.Outside.{Store, file_in, AppendsFront, with_file}
 use Rattle.cap_base.specs.SaveFile.{WritesFront}
 use Rattle.cap_mem.specs.Tagged.{TaggedMemory}
 use Rattle.purecap.specs.declared.faults.Failure.{Failure}
-use Rattle.purecap.specs.declared.faults.Failure.TheVariants.{WriteFault, Differs}
+use Rattle.purecap.specs.declared.faults.Failure.TheVariants.{WriteFault}
 use Rattle.purecap.specs.Linking.{Found, found_in, link_story}
 use Rattle.purecap.specs.Words.{Command, Show, Load, Link, Demo, Init, Reach, Audit, command_of}
 use Rattle.purecap.specs.Story.{stopped, Product, Printed, Saved, Differing, Stop, Story}

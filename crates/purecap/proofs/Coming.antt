@@ -1,5 +1,5 @@
 -- What a command comes to that loads a program, from what its steps give.
-use Rattle.std.proofs.Common.{◌≡◌, ℕ, Bool, true, List, [], ◌∷◌, ◌++◌, map, Option, Some, None, option_map, IfSome, Result, Ok, Err, refl, sym, ap, subst, ◌∙◌, inl, inr, append-nil, arith}
+use Rattle.std.proofs.Common.{◌≡◌, ℕ, Bool, true, List, [], ◌∷◌, ◌++◌, map, Option, Some, None, option_map, IfSome, Result, Ok, Err, refl, sym, ap, subst, ◌∙◌, append-nil, arith}
 use Rattle.cap_base.specs.Outside.{Store}
 use Rattle.cap_mem.specs.Tagged.{TaggedMemory}
 use Rattle.cap_scope.specs.Candidates.{hash_table}
@@ -16,9 +16,9 @@ use Rattle.cap_session.specs.Refused.{CauseCounted}
 use Rattle.purecap.specs.declared.faults.Failure.{Failure}
 use Rattle.purecap.specs.declared.faults.Failure.TheVariants as failures
 use Rattle.purecap.specs.Faults.{failure_of, refusal_line}
-use Rattle.purecap.specs.Story.{Product, Saved, Stop, Story}
+use Rattle.purecap.specs.Story.{Product, Saved, Story}
 use Rattle.purecap.specs.Answer.{ended_by, story_by, saved, state_image, note_lines}
-use Rattle.purecap.specs.Run.{Count, Stream, streamed, Disk, stored, IsStill, IsKept, IsUntouched, IsNothing, IsEndOf, EndsAs, Says}
+use Rattle.purecap.specs.Run.{Count, Stream, streamed, Disk, IsStill, IsKept, IsUntouched, IsEndOf, EndsAs, Says}
 use Rattle.purecap.specs.Printing.{Told}
 use Rattle.purecap.specs.Calling.{Tells, Leads, LeadsOn, EndsCalls, HasCalled, IsEnded, Finishes, Comes, with_notes}
 use Rattle.purecap.proofs.Said.{says_last, says_same}

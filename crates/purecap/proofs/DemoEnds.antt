@@ -17,7 +17,7 @@ use Rattle.purecap.specs.declared.faults.Failure.TheVariants.{Usage, NoFile, Mal
 use Rattle.purecap.specs.Faults.{line_of}
 use Rattle.purecap.specs.LinkWords.{LinkWords}
 use Rattle.purecap.specs.Linking.{kind_of, link_failure, linked, linked_by}
-use Rattle.purecap.specs.Story.{Product, Printed, Saved, Differing, Stop, stop_at}
+use Rattle.purecap.specs.Story.{Product, Printed, Stop, stop_at}
 use Rattle.purecap.specs.Answer.{demo_story, demo_text, state_image, summed}
 use Rattle.purecap.specs.Demo.{demo_failure, demo_linked, demo_opened, demo_started, demo_store, link_for, linked_bytes, linked_parts, or_stop, product_bytes, summary_of}
 use Rattle.purecap.specs.Run.{Stream, Disk, IsStill, IsKept, IsUntouched, IsNothing, EndsAs, Says, Demos}

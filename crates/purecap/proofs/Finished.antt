@@ -7,7 +7,7 @@ use Rattle.std.proofs.lemmas.Bool.Decides.{nat_tests}
 use Rattle.cap_mem.specs.Tagged.{TaggedMemory}
 use Rattle.purecap.specs.declared.faults.Failure.{Failure}
 use Rattle.purecap.specs.declared.faults.Failure.TheVariants.{Differs}
-use Rattle.purecap.specs.Story.{Product, Printed, Saved, Differing}
+use Rattle.purecap.specs.Story.{Printed, Saved, Differing}
 use Rattle.purecap.specs.Answer.{compared_by}
 use Rattle.purecap.specs.Run.{Stream, Disk, IsStill, IsKept, IsUntouched, IsWritten}
 use Rattle.purecap.specs.Printing.{Told, IsLast, PrintsNext}

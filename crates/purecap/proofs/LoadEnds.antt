@@ -4,7 +4,6 @@ use Rattle.cap_base.specs.Outside.{Store, file_in}
 use Rattle.cap_mem.specs.Tagged.{TaggedMemory}
 use Rattle.cap_image.specs.Parts.{ImageParts}
 use Rattle.cap_session.specs.declared.refusal.OpenCause.TheVariants as causes
-use Rattle.cap_session.specs.Calls.{Outcome}
 use Rattle.cap_session.specs.State.{State}
 use Rattle.purecap.specs.declared.faults.Failure.{Failure}
 use Rattle.purecap.specs.declared.faults.Failure.TheVariants.{NoFile}
@@ -14,10 +13,10 @@ use Rattle.purecap.specs.Words.{LoadWords}
 use Rattle.purecap.specs.Images.{image_in}
 use Rattle.purecap.specs.Story.{Product, Story, stopped}
 use Rattle.purecap.specs.Answer.{audit_by, audit_story, called, compared, program_outcome, saved, state_image, story_by}
-use Rattle.purecap.specs.Run.{Count, Stream, Disk, stored, IsStill, IsKept, IsUntouched, IsNothing, IsRefused, EndsAs, Says, IsEndOf, IsImageFile, IsCallList, IsComparison, IsAudited, Loads, Inits, Audits}
+use Rattle.purecap.specs.Run.{Stream, Disk, IsStill, IsUntouched, EndsAs, Says, IsImageFile, IsCallList, IsComparison, IsAudited, Loads, Inits, Audits}
 use Rattle.purecap.specs.Printing.{Yields, YieldsOf}
 use Rattle.purecap.specs.Calling.{outcome_in, Comes}
-use Rattle.purecap.proofs.Ended.{audited_is, compared_is}
+use Rattle.purecap.proofs.Ended.{audited_is}
 use Rattle.purecap.proofs.Shown.{nothing, yields_decided}
 use Rattle.purecap.proofs.Ways.{Kind, OfReading, OfWriting, OfMemory, OfAudit, Decided, kind_of, decided_ends}
 

@@ -1,5 +1,5 @@
 -- What was printed first, behind no other line.
-use Rattle.std.proofs.Common.{◌≡◌, ℕ, List, Option, Result, Ok, Err}
+use Rattle.std.proofs.Common.{ℕ, List, Option, Result, Ok, Err}
 use Rattle.purecap.specs.declared.faults.Failure.{Failure}
 use Rattle.purecap.specs.Run.{Stream, streamed}
 use Rattle.purecap.specs.Printing.{PrintsNext, PrintsTold}

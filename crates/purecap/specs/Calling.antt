@@ -1,5 +1,5 @@
 -- How a start and calls go, and what they have told on the error output.
-use Rattle.std.specs.Prelude.{◌≡◌, ◌⊎◌, ℕ, Bool, true, false, List, [], ◌∷◌, ◌++◌, flat_map, Option, Some, None, option_map, IfSome, Result, Ok, Err}
+use Rattle.std.specs.Prelude.{◌≡◌, ℕ, Bool, true, false, List, [], ◌∷◌, ◌++◌, flat_map, Option, Some, None, option_map, IfSome, Result, Ok, Err}
 use Rattle.cap_base.specs.Outside.{Store, Sends, SendsNext}
 use Rattle.cap_mem.specs.Tagged.{TaggedMemory}
 use Rattle.cap_audit.specs.declared.finding.Finding.{Finding}
@@ -14,7 +14,7 @@ use Rattle.cap_session.specs.Session.{SessionValue, StandsFor}
 use Rattle.cap_session.specs.Refused.{CauseCounted}
 use Rattle.purecap.specs.declared.faults.Failure.{Failure}
 use Rattle.purecap.specs.declared.faults.Failure.TheVariants as failures
-use Rattle.purecap.specs.Faults.{failure_of, line_of, refusal_line}
+use Rattle.purecap.specs.Faults.{failure_of, refusal_line}
 use Rattle.purecap.specs.ProgramWords.{ProgramWords}
 use Rattle.purecap.specs.Story.{Product, Differing, Story}
 use Rattle.purecap.specs.Answer.{story_by, note_lines}

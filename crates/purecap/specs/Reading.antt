@@ -1,5 +1,5 @@
 -- Why the image in a file is not reported.
-use Rattle.std.specs.Prelude.{◌≡◌, List, ℕ, Result, Err}
+use Rattle.std.specs.Prelude.{◌≡◌, Result, Err}
 use Rattle.cap_base.specs.Check.{number_of}
 use Rattle.cap_base.specs.declared.check.Check.TheVariants.{FileSize}
 use Rattle.cap_base.specs.declared.reading.FileRefusal.{FileRefusal}

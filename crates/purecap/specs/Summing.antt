@@ -16,12 +16,12 @@ use Rattle.cap_session.specs.State.{State}
 use Rattle.purecap.specs.declared.demo.Halt.{Halt}
 use Rattle.purecap.specs.declared.demo.Halt.TheVariants as halts
 use Rattle.purecap.specs.declared.faults.Failure.{Failure}
-use Rattle.purecap.specs.declared.faults.Failure.TheVariants.{NoMemory, WriteFault}
+use Rattle.purecap.specs.declared.faults.Failure.TheVariants.{NoMemory}
 use Rattle.purecap.specs.Faults.{failure_of, line_of}
 use Rattle.purecap.specs.WordRules.{is_long, is_path}
 use Rattle.purecap.specs.Answer.{state_image}
 use Rattle.purecap.specs.Demo.{demo_opened, summary_lines, summary_of}
-use Rattle.purecap.specs.Run.{Stream, IsStill, IsWritten, IsCut, Says}
+use Rattle.purecap.specs.Run.{Stream, Says}
 use Rattle.purecap.specs.Story.{Stop, stop_at}
 
 -- memory ran out, or a step stops as is said here
