@@ -20,7 +20,7 @@ use Rattle.cap_audit.specs.declared.finding.What.{What}
 use Rattle.cap_audit.specs.declared.finding.What.TheVariants.{Object, Order, Version as Versions}
 use Rattle.cap_audit.specs.Findings.{have_same_head, is_same_object, object_finding, objects_below, version_findings, head_findings, tag_of, bytes_of, record_of, is_same_source, what_differs, difference_at, finding_at, granule_finding, findings_below, granule_findings, have_same_records, tell_of_records, order_finding, object_at, granules_below, orders_below, body_findings, or_else, findings}
 use Rattle.cap_audit.specs.Alike.{AreAlike, have_same_memory}
-use Rattle.cap_audit.specs.AuditLaws.{NoneWhereSame}
+use Rattle.cap_audit.specs.AuditLaws.{NoneWhereSame, NoneWhereWritten}
 use Rattle.cap_audit.proofs.Below.{granules_more, orders_more}
 use Rattle.cap_audit.proofs.Heads.{no_front, none_kept, flat_none, true_if, same_version, same_objects}
 use Rattle.cap_audit.proofs.Records.{records_decide}
@@ -255,12 +255,23 @@ module _ (image wanted : ImageParts) (each : All IsReadObject image.objects) (ot
   unfolding findings
   same_images none = without_findings none
 
+-- images that were read from the same bytes have no findings
+of_same_bytes : (bytes others : List ℕ) (image wanted : ImageParts) → read_image bytes ≡ Ok image → read_image others ≡ Ok wanted → bytes ≡ others → findings image wanted ≡ []
+of_same_bytes bytes others image wanted read wanted_read e =
+    let both : Ok image ≡ Ok wanted = sym read ∙ ap read_image e ∙ wanted_read in
+    let same : image ≡ wanted = cc in
+    subst (λ (w : ImageParts). findings image w ≡ []) same (itself image)
+
+-- there are no findings exactly where the bytes are those that are written of the wanted image
+pub none_where_written : AcceptedIsWritten → AcceptedHasObjects → NoneWhereWritten
+none_where_written written objects bytes image wanted are read wanted_read wanted_objects = (
+  λ none. written bytes image are read ∙ ap image_bytes (same_images image wanted (objects bytes image are read) wanted_objects none),
+  of_same_bytes bytes (image_bytes wanted) image wanted read wanted_read,
+)
+
 -- there are no findings exactly where the bytes are the same
 pub none_where_same : AcceptedIsWritten → AcceptedHasObjects → NoneWhereSame
 none_where_same written objects bytes others image wanted are these read wanted_read = (
   λ none. written bytes image are read ∙ ap image_bytes (same_images image wanted (objects bytes image are read) (objects others wanted these wanted_read) none) ∙ sym (written others wanted these wanted_read),
-  λ e.
-      let both : Ok image ≡ Ok wanted = sym read ∙ ap read_image e ∙ wanted_read in
-      let same : image ≡ wanted = cc in
-      subst (λ (w : ImageParts). findings image w ≡ []) same (itself image),
+  of_same_bytes bytes others image wanted read wanted_read,
 )

@@ -10,7 +10,7 @@ use Rattle.std.proofs.lemmas.List.Elements.{All-contains, All-weaker, All-append
 use Rattle.cap_image.specs.Parts.{ImageObject, ImageParts, IsImage, IsObject, no_object, has_tag, is_tagged_in, tag_in, tagged_below, tagged_granules, Ascend, interval_of, space_start, space_end}
 use Rattle.cap_image.specs.Words.{count_below}
 use Rattle.cap_image.specs.Granules.{is_tagged_at, is_held, object_at}
-use Rattle.cap_image.specs.GranuleLaws.{GranulesAscend, GranulesAreFew, GranulesAreTagged, GranulesHaveObjects}
+use Rattle.cap_image.specs.GranuleLaws.{GranulesAscend, GranulesAreFew, GranulesAreTagged, GranulesHaveObjects, HeldHaveObjects}
 use Rattle.cap_image.proofs.TagCounts.{granules_counted, count_few}
 use Rattle.cap_image.proofs.Holding.{contains_filter, filter_contains, in_range, range_has, range_rises, Rises, rises_append, and_left, and_right, or_left, or_right, or_cases}
 
@@ -103,15 +103,18 @@ one_tagged o g is_object has =
 numbered : (base size g : ℕ) → base % 4096 ≡ 0 → size % 4096 ≡ 0 → g % 16 ≡ 0 → base ≤ g → g < base + size → (base + 16 * ((g - base) / 16) ≡ g) × ((g - base) / 16 < size / 16)
 numbered base size g a b c low high = (omega arith, omega arith)
 
--- a tagged address is one of the object's
-pub inside_one : (o : ImageObject) (g : ℕ) → is_tagged_in g o ≡ true → IsWithin o g
-inside_one o g tagged =
-    let front = and_left _ (has_tag o.tags (g - o.base)) tagged in
-    let le = and_left (nat_le o.base g) (nat_lt g (o.base + length o.bytes)) front in
-    let lt = and_right (nat_le o.base g) (nat_lt g (o.base + length o.bytes)) front in
+-- an object that holds an address has it within
+held_within : (o : ImageObject) (g : ℕ) → is_held g o ≡ true → IsWithin o g
+held_within o g holds =
+    let le = and_left (nat_le o.base g) (nat_lt g (o.base + length o.bytes)) holds in
+    let lt = and_right (nat_le o.base g) (nat_lt g (o.base + length o.bytes)) holds in
     let low : o.base ≤ g = grind (arith, nat_tests) in
     let high : g < o.base + length o.bytes = grind (arith, nat_tests) in
     (low, high)
+
+-- a tagged address is one of the object's
+pub inside_one : (o : ImageObject) (g : ℕ) → is_tagged_in g o ≡ true → IsWithin o g
+inside_one o g tagged = held_within o g (and_left (is_held g o) (has_tag o.tags (g - o.base)) tagged)
 
 tagged_one : (o : ImageObject) (g : ℕ) → IsObject o → is_tagged_in g o ≡ true → g % 16 ≡ 0 → Contains (tagged_granules o) g
 tagged_one o g is_object tagged even =
@@ -212,3 +215,6 @@ object_is image i g is lt inside = ap (λ o. unwrap_or o no_object) (held image.
 pub granules_have_objects : GranulesHaveObjects
 granules_have_objects image i g is lt has =
     object_is image i g is lt (All-contains (IsWithin (slice_index_or image.objects i no_object)) (tagged_granules (slice_index_or image.objects i no_object)) g (within (slice_index_or image.objects i no_object)) has)
+
+pub held_have_objects : HeldHaveObjects
+held_have_objects image i g is lt holds = object_is image i g is lt (held_within (slice_index_or image.objects i no_object) g holds)

@@ -1,11 +1,11 @@
 -- The image of memories that can be read is an image.
 use Rattle.std.proofs.Common.{◌≡◌, ℕ, zero, suc, ◌+◌, ◌-◌, ◌*◌, ◌/◌, ◌%◌, ◌<◌, ◌≤◌, ◌==◌, Bool, true, false, cond, List, [], ◌∷◌, length, map, get_or, Some, refl, sym, ap, ◌∙◌, subst, arith, ⊎_elim}
 use Rattle.std.specs.Prelude.{◌≢◌, All, AllPairs, IsTrue, find, is_some}
-use Rattle.std.specs.List.{zip}
-use Rattle.std.proofs.lemmas.Bool.{le-leb, lt-ltb, eq-eqb, ne_eqb, cases_eq}
-use Rattle.std.proofs.lemmas.List.{length-map}
+use Rattle.std.specs.List.{range_with_len, zip}
+use Rattle.std.proofs.lemmas.Bool.{le-leb, lt-ltb, eq-eqb, ne_eqb, cases_eq, cases_lt}
+use Rattle.std.proofs.lemmas.List.{length-map, get_or_past}
 use Rattle.std.proofs.lemmas.List.Elements.{All-map}
-use Rattle.std.proofs.lemmas.List.FromFn.{length-map-range_with_len}
+use Rattle.std.proofs.lemmas.List.FromFn.{length-map-range_with_len, get_or-map-range_with_len}
 use Rattle.std.proofs.lemmas.Slice.Zip.{get_or-zip, length-zip}
 use Rattle.cap_base.specs.Text.{is_plain}
 use Rattle.cap_mem.specs.Ascending.{Ascend as MemoriesAscend}
@@ -14,9 +14,11 @@ use Rattle.cap_mem.specs.Tagged.{TaggedMemory, TaggedWord, is_tagged, stands_at}
 use Rattle.cap_image.specs.declared.header.Version.TheVariants.{Two}
 use Rattle.cap_image.specs.Parts.{ImageObject, IsObject, IsWord, FollowsWord, HasWords, Ascend, interval_of, has_tag, is_tagged_granule, space_start, space_end}
 use Rattle.cap_image.specs.Words.{count_below}
-use Rattle.cap_image.specs.Writing.{tag_bytes, first_tag_bytes, record_of, records_of, object_of, objects_of, IsWritable, IsObjectName, AreShort}
-use Rattle.cap_image.specs.ReadBack.{IsMapped, ArePlain, MemoriesAreImages}
+use Rattle.cap_image.specs.Writing.{tag_byte, tag_bytes, first_tag_bytes, record_of, records_of, object_of, objects_of, IsWritable, IsObjectName, AreShort}
+use Rattle.cap_image.specs.ReadBack.{IsMapped, ArePlain, MemoriesAreImages, MemoriesAreRead}
+use Rattle.cap_image.specs.Accepted.{AreBytes}
 use Rattle.cap_image.proofs.ImageOf.{tags_of}
+use Rattle.cap_image.proofs.TagBytes.{tags_low}
 use Rattle.cap_image.proofs.Listing.{pairs_of_map}
 use Rattle.cap_image.proofs.TagCounts.{one_counted, granules_counted}
 use Rattle.cap_image.proofs.WordOrder.{Distinct, rest_apart, first_apart}
@@ -222,4 +224,29 @@ are_images names symbols memories can =
           subst (λ (total : ℕ). All (HasWords Two total) (objects_of names symbols memories)) (written.symbol_count ∙ sym objects)
           (all_objects (HasWords Two (length symbols)) names symbols memories count
           (λ k n m lt. words_are symbols written.symbol_names can.symbol_names (get_or names k n) (get_or memories k m) (can.mapped k m lt) (written.writable k m lt)));
+    }
+
+-- ---- objects as those of a file that was read
+
+tag_bytes_are : (m : TaggedMemory) (n : ℕ) → AreBytes (first_tag_bytes m n)
+unfolding first_tag_bytes
+tag_bytes_are m n i = ⊎_elim
+    (λ (here : i < n).
+    let byte : get_or (map (λ j. tag_byte m (m.base + 128 * j)) (range_with_len 0 n)) i 0 ≡ tag_byte m (m.base + 128 * i) =
+    get_or-map-range_with_len (λ j. tag_byte m (m.base + 128 * j)) 0 n i i 0 here (omega arith) in
+    let low : tag_byte m (m.base + 128 * i) < 256 = tags_low m (m.base + 128 * i) 8 in
+    omega (arith, byte, low))
+    (λ (past : n ≤ i).
+    let none : get_or (map (λ j. tag_byte m (m.base + 128 * j)) (range_with_len 0 n)) i 0 ≡ 0 =
+    get_or_past (map (λ j. tag_byte m (m.base + 128 * j)) (range_with_len 0 n)) i 0 (omega (arith, past, length-map-range_with_len (λ j. tag_byte m (m.base + 128 * j)) 0 n)) in
+    omega (arith, none))
+    (cases_lt i n)
+
+pub are_read : MemoriesAreRead
+are_read names symbols memories can =
+    let count : length names ≡ length memories = can.can_be_written.name_count in
+    let is = are_images names symbols memories can in
+    λ k d lt. record {
+      object = is.objects k d lt;
+      tags = all_objects (λ o. AreBytes o.tags) names symbols memories count (λ j n m inside. tag_bytes_are (get_or memories j m) (length (get_or memories j m).bytes / 128)) k d lt;
     }

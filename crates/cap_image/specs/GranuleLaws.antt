@@ -2,7 +2,7 @@
 use Rattle.std.specs.Prelude.{◌≡◌, ◌↔◌, ℕ, ◌^◌, ◌<◌, ◌≤◌, true, length, Contains, slice_index_or}
 use Rattle.std.specs.List.Sorted.{IsStrictlyIncreasing}
 use Rattle.cap_image.specs.Parts.{ImageParts, IsImage, no_object, tagged_granules}
-use Rattle.cap_image.specs.Granules.{tagged_of, is_tagged_at, object_at}
+use Rattle.cap_image.specs.Granules.{tagged_of, is_held, is_tagged_at, object_at}
 
 -- objects ascend, so all tagged granules do
 abbrev pub GranulesAscend : Type 0
@@ -27,3 +27,12 @@ GranulesHaveObjects =
     → i < length image.objects
     → Contains (tagged_granules (slice_index_or image.objects i no_object)) granule
     → object_at image granule ≡ slice_index_or image.objects i no_object
+
+-- an object that holds an address is the one that is found there
+abbrev pub HeldHaveObjects : Type 0
+HeldHaveObjects =
+    (image : ImageParts) (i at : ℕ)
+    → IsImage image
+    → i < length image.objects
+    → is_held at (slice_index_or image.objects i no_object) ≡ true
+    → object_at image at ≡ slice_index_or image.objects i no_object

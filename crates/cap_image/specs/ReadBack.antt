@@ -5,6 +5,7 @@ use Rattle.cap_mem.specs.Ascending.{Ascend}
 use Rattle.cap_mem.specs.IsMemory.{IsMemory}
 use Rattle.cap_mem.specs.Tagged.{TaggedMemory}
 use Rattle.cap_image.specs.Parts.{ImageParts, IsImage, space_start, space_end}
+use Rattle.cap_image.specs.Accepted.{IsReadObject}
 use Rattle.cap_image.specs.Reading.{read_image}
 use Rattle.cap_image.specs.Writing.{image_of, image_bytes, CanBeWritten}
 
@@ -37,3 +38,10 @@ MemoriesAreImages =
     (names : List (List ℕ × Bool)) (symbols : List (List (List ℕ × Bool))) (memories : List TaggedMemory)
     → CanBeRead names symbols memories
     → IsImage (image_of names symbols memories)
+
+-- and its objects are as those of a file that was read
+abbrev pub MemoriesAreRead : Type 0
+MemoriesAreRead =
+    (names : List (List ℕ × Bool)) (symbols : List (List (List ℕ × Bool))) (memories : List TaggedMemory)
+    → CanBeRead names symbols memories
+    → All IsReadObject (image_of names symbols memories).objects

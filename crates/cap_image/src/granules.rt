@@ -4,7 +4,7 @@ ghost use Rattle.std.specs.Prelude.{◌≡◌, ◌↔◌, ℕ, ◌+◌, ◌-◌,
 ghost use Rattle.std.specs.List.Sorted.{IsStrictlyIncreasing};
 ghost use Rattle.cap_image.specs.Parts.{no_object, tagged_granules};
 ghost use Rattle.cap_image.specs.Report.{word_count, word_in as word_in_of, IsGranuleOf};
-ghost use Rattle.cap_image.specs.GranuleLaws.{GranulesAscend, GranulesAreFew, GranulesAreTagged, GranulesHaveObjects};
+ghost use Rattle.cap_image.specs.GranuleLaws.{GranulesAscend, GranulesAreFew, GranulesAreTagged, GranulesHaveObjects, HeldHaveObjects};
 
 use crate::image::Image;
 use crate::tags::{count_tags, tagged};
@@ -68,4 +68,5 @@ pub fn granule_laws()
     ensures few { GranulesAreFew }
     ensures tagged { GranulesAreTagged }
     ensures objects { GranulesHaveObjects }
+    ensures held { HeldHaveObjects }
 {}

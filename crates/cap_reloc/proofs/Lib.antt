@@ -19,3 +19,4 @@ mod StoredWords
 mod StoredLaws
 pub mod NarrowedWords
 pub mod NotedWords
+mod SoundStored

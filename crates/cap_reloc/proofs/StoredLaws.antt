@@ -60,7 +60,7 @@ slots_differ p c slot some some_too apart same =
     let le = ltb-false (max p.slot slot) (min (p.slot + size_of p) (slot + length (content_bytes c))) apart in
     absurd (omega (arith, le, same, some, some_too))
 
-others_differ : (p : Pair) (w : TaggedWord) (pairs : List Pair) → 0 < size_of p → w.granule ≡ p.slot → AreApartFrom p pairs → All (Differ w) (tagged_pairs pairs)
+pub others_differ : (p : Pair) (w : TaggedWord) (pairs : List Pair) → 0 < size_of p → w.granule ≡ p.slot → AreApartFrom p pairs → All (Differ w) (tagged_pairs pairs)
 others_differ p w [] some is apart = All-nil (Differ w)
 others_differ p w (q ∷ pairs) some is apart = go q.slot q.content (apart 0 q (omega arith)) (others_differ p w pairs some is (λ k d lt. apart (suc k) d (omega (arith, lt))))
   where

@@ -1,16 +1,18 @@
 -- Laws of the pairs that are wanted, and of what memory holds once pairs are stored whose slots lie in it.
-use Rattle.std.specs.Prelude.{◌≡◌, ◌⊎◌, ℕ, ◌-◌, ◌<◌, Bool, true, false, ◌&&◌, ◌==◌, All, Contains, List, length, filter, find, slice_index, Some, None, Ok, Err}
+use Rattle.std.specs.Prelude.{◌≡◌, ◌⊎◌, ℕ, ◌+◌, ◌-◌, ◌^◌, ◌<◌, ◌≤◌, Bool, true, false, ◌&&◌, ◌==◌, All, Contains, List, [], length, filter, find, slice_index, Some, None, Ok, Err}
 use Rattle.std.specs.List.{list_any}
 use Rattle.cap_own.specs.Cap.{word_of_cap}
 use Rattle.cap_mem.specs.IsMemory.{IsMemory}
 use Rattle.cap_mem.specs.Tagged.{TaggedMemory, TaggedWord, is_of, is_tagged, tagged_word, list_of, stands_at, bytes_at, word_in, IsInside}
 use Rattle.cap_own.specs.Cap.{Mapping}
+use Rattle.cap_elf.specs.DynView.{DynRecords}
 use Rattle.cap_fits.specs.Fits.{loaded_intervals}
 use Rattle.cap_scope.specs.Chosen.{object_at}
 use Rattle.cap_reloc.specs.declared.refusal.RelocRefusal.{RelocRefusal}
 use Rattle.cap_reloc.specs.Binding.{IsUnrelocated, IsUnfitCause}
 use Rattle.cap_reloc.specs.Sound.{IsPlaced}
 use Rattle.cap_reloc.specs.Wanted.{Setting, Content, Number, Untagged, Tagged, Pair, wanted_pairs}
+use Rattle.cap_reloc.specs.Noted.{IsNote, IsNoted}
 use Rattle.cap_reloc.specs.Planned.{IsSlotIn, SlotsAreApart, IsNarrowedIn}
 use Rattle.cap_reloc.specs.Stored.{content_bytes, has_byte, tagged_pairs, with_pairs}
 
@@ -69,6 +71,17 @@ abbrev pub SizeStays : Type 0
 SizeStays =
     (pairs : List Pair) (memory : TaggedMemory) → length (with_pairs pairs memory).bytes ≡ length memory.bytes
 
+-- memory without a tag stays a sound memory, where the slots lie in it and apart, and each capability was granted by a
+-- mapping that ends at 2 ^ 62 at most
+abbrev pub StoredIsSound : Type 0
+StoredIsSound =
+    (roots : List Mapping) (pairs : List Pair) (memory : TaggedMemory) → All (λ root. root.base + root.len ≤ 2 ^ 62) roots → IsMemory memory → memory.words ≡ [] → All (IsSlotIn memory) pairs → SlotsAreApart pairs → All (λ p. IsNarrowedIn roots p.content) pairs → IsMemory (with_pairs pairs memory)
+
+-- each tagged word has the note of its pair: a symbol of the object that owns its capability
+abbrev pub StoredIsNoted : Type 0
+StoredIsNoted =
+    (objects : List DynRecords) (pairs : List Pair) (memory : TaggedMemory) → All (λ p. IsNoted objects p.content) pairs → All (λ w. IsNote objects w.cap w.note) (with_pairs pairs memory).words
+
 -- each capability that is wanted was narrowed from the mapping of its owner, with exact bounds
 abbrev pub WantedIsNarrowed : Type 0
 WantedIsNarrowed =
@@ -100,3 +113,8 @@ IsOfData setting (Tagged c note) =
 abbrev pub WantedIsData : Type 0
 WantedIsData =
     (roots : List Mapping) (setting : Setting) (pairs : List Pair) → IsPlaced roots setting → wanted_pairs setting ≡ Ok pairs → All (λ p. IsOfData setting p.content) pairs
+
+-- each capability that is wanted comes with a symbol of the object that owns it
+abbrev pub WantedIsNoted : Type 0
+WantedIsNoted =
+    (roots : List Mapping) (setting : Setting) (pairs : List Pair) → IsPlaced roots setting → wanted_pairs setting ≡ Ok pairs → All (λ p. IsNoted setting.objects p.content) pairs

@@ -7,8 +7,10 @@ ghost use Rattle.cap_reloc.specs.Laws.{
   SlotsAreFilled,
   OthersStay,
   SizeStays,
+  StoredIsSound,
+  StoredIsNoted,
 };
-ghost use Rattle.cap_reloc.specs.Laws.{WantedIsNarrowed, WantedIsApart, WantedIsInside, WantedIsData, RefusedIsUnfit};
+ghost use Rattle.cap_reloc.specs.Laws.{WantedIsNarrowed, WantedIsApart, WantedIsInside, WantedIsData, WantedIsNoted, RefusedIsUnfit};
 
 /// States what memory holds once the pairs of an object are stored. It computes nothing.
 pub fn storing_laws()
@@ -20,8 +22,11 @@ pub fn storing_laws()
     ensures slots { SlotsAreFilled }
     ensures others { OthersStay }
     ensures size { SizeStays }
+    ensures sound { StoredIsSound }
+    ensures noted { StoredIsNoted }
 {
     cap_mem::order_laws();
+    cap_own::grant_laws();
 }
 
 /// States what holds of the pairs that are wanted of an object, and of a refusal. It computes nothing.
@@ -31,4 +36,5 @@ pub fn binding_laws()
     ensures inside { WantedIsInside }
     ensures unfit { RefusedIsUnfit }
     ensures bounds { WantedIsData }
+    ensures noted { WantedIsNoted }
 {}

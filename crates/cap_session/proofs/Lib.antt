@@ -28,3 +28,6 @@ pub mod Apart
 pub mod Given
 pub mod Unfit
 pub mod Runs
+pub mod HeldNames
+pub mod HeldObjects
+pub mod HeldStates

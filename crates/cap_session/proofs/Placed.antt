@@ -30,7 +30,7 @@ pub record PairLaws : Type 0 where
   pub bounds : WantedIsData
   pub unfit : RefusedIsUnfit
 
-abbrev root_of : ℕ → Loaded → Mapping
+abbrev pub root_of : ℕ → Loaded → Mapping
 root_of n o = record { base = o.base; len = (records_of o).span; owner = n }
 
 -- the mappings of objects, numbered from one on
@@ -50,7 +50,7 @@ root-count : (n : ℕ) (objects : List Loaded) → length (roots_from n objects)
 root-count n [] = refl
 root-count n (o ∷ objects) = let rest = root-count (n + 1) objects in omega (arith, rest)
 
-root-at : (P : Mapping → Type 0) (n i : ℕ) (objects : List Loaded) (d : Loaded) → i < length objects → ((k : ℕ) → P (root_of k (get_or objects i d))) → IsSomeAnd (slice_get (roots_from n objects) i) P
+pub root-at : (P : Mapping → Type 0) (n i : ℕ) (objects : List Loaded) (d : Loaded) → i < length objects → ((k : ℕ) → P (root_of k (get_or objects i d))) → IsSomeAnd (slice_get (roots_from n objects) i) P
 root-at P n i [] d lt h = absurd (omega (arith, lt))
 root-at P n zero (o ∷ objects) d lt h = h n
 root-at P n (suc i) (o ∷ objects) d lt h = root-at P (n + 1) i objects d (omega (arith, lt)) h

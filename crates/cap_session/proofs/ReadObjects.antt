@@ -120,7 +120,7 @@ one_more-loads fetch path objects name more given h e =
     } in
     subst AreSomeLoaded (ap (λ (x : Loaded). objects ++ x ∷ []) (sym is) ∙ cause_ok_same (objects ++ found.0 ∷ []) more found.2) all
 
-loaded_next-loads : (fetch : Fetch) (dir : List ℕ) (objects : List Loaded) (name : List ℕ) (more : List Loaded) → GivesRead fetch → AreLoaded objects → loaded_next fetch dir objects name ≡ Ok more → AreSomeLoaded more
+pub loaded_next-loads : (fetch : Fetch) (dir : List ℕ) (objects : List Loaded) (name : List ℕ) (more : List Loaded) → GivesRead fetch → AreLoaded objects → loaded_next fetch dir objects name ≡ Ok more → AreSomeLoaded more
 loaded_next-loads fetch dir objects name more given h e =
     one_more-loads fetch (path_of dir (length objects) name) objects name more given h (seen_ok (at_path (path_of dir (length objects) name)) (one_more fetch (path_of dir (length objects) name) objects name) more e)
 

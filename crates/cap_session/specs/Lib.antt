@@ -16,3 +16,4 @@ pub mod Session
 pub mod Endings
 pub mod Kept
 pub mod Exact
+pub mod Held

@@ -1,4 +1,5 @@
 ghost use Rattle.cap_session.specs.Exact.{InexactIsUnfit, NamesAreAnswered, RunsAreSound, StatesAreReached, StatesLieApart, StoresGiveRead};
+ghost use Rattle.cap_session.specs.Held.{RunsAreHeld};
 
 /// States what holds of every state that a start and calls lead to, and of a refusal. It computes nothing.
 pub fn state_laws()
@@ -8,7 +9,9 @@ pub fn state_laws()
     ensures apart { StatesLieApart }
     ensures unfit { InexactIsUnfit }
     ensures runs { RunsAreSound }
+    ensures held { RunsAreHeld }
 {
     cap_elf::read_laws();
     cap_reloc::binding_laws();
+    cap_reloc::storing_laws();
 }

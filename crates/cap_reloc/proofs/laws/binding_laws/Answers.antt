@@ -1,5 +1,6 @@
 use Rattle.cap_reloc.proofs.FromPlan.{sound_pairs, narrowed_pairs, data_pairs, slots_in}
 use Rattle.cap_reloc.proofs.SoundPlan.{pairs_say}
+use Rattle.cap_reloc.proofs.NotedWords.{notes_are_symbols, placed_names}
 use Rattle.cap_reloc.proofs.laws.binding_laws.Goals as goal
 
 pub returns-clause-narrowed : goal.returns-clause-narrowed
@@ -16,3 +17,6 @@ returns-clause-unfit c = λ roots setting refusal placed is. (pairs_say roots se
 
 pub returns-clause-bounds : goal.returns-clause-bounds
 returns-clause-bounds c = λ roots setting pairs placed is. data_pairs roots setting pairs (sound_pairs roots setting pairs placed is)
+
+pub returns-clause-noted : goal.returns-clause-noted
+returns-clause-noted c = λ roots setting pairs placed is. notes_are_symbols setting pairs (placed_names roots setting placed) is

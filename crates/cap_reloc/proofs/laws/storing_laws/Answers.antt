@@ -1,4 +1,5 @@
 use Rattle.cap_reloc.proofs.StoredLaws.{tags_are, words_are, capabilities_stand, bytes_are_words, lists_are, slots_filled, others_stay, size_stays}
+use Rattle.cap_reloc.proofs.SoundStored.{stored_noted, stored_sound}
 use Rattle.cap_reloc.proofs.laws.storing_laws.Goals as goal
 
 pub returns-clause-tags : goal.returns-clause-tags
@@ -24,3 +25,9 @@ returns-clause-others c = others_stay
 
 pub returns-clause-size : goal.returns-clause-size
 returns-clause-size c = size_stays
+
+pub returns-clause-sound : goal.returns-clause-sound
+returns-clause-sound c = λ roots pairs memory low sound none inside apart narrowed. stored_sound c.grant_laws.ensures roots pairs memory low sound inside apart narrowed
+
+pub returns-clause-noted : goal.returns-clause-noted
+returns-clause-noted c = stored_noted

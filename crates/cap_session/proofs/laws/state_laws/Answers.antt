@@ -1,6 +1,8 @@
 use Rattle.cap_session.proofs.Answered.{names-answered}
 use Rattle.cap_session.proofs.Apart.{state-apart}
 use Rattle.cap_session.proofs.Given.{store-gives}
+use Rattle.cap_session.proofs.HeldObjects.{HeldLaws}
+use Rattle.cap_session.proofs.HeldStates.{run-held}
 use Rattle.cap_session.proofs.Placed.{PairLaws}
 use Rattle.cap_session.proofs.Reached.{call-reached, run-reached, start-reached}
 use Rattle.cap_session.proofs.Runs.{ended-blamed, noted-blamed, run-among}
@@ -43,3 +45,11 @@ returns-clause-runs c =
       ended = λ store dir main rule calls refusal. ended-blamed laws (fetch_from store) dir main rule calls refusal (given store);
       noted = λ store dir main rule calls. noted-blamed laws (fetch_from store) dir main rule calls (given store);
     }
+
+pub returns-clause-held : goal.returns-clause-held
+returns-clause-held c =
+    let said = c.binding_laws.ensures in
+    let stored = c.storing_laws.ensures in
+    let pairs : PairLaws = record { narrowed = said.narrowed; apart = said.apart; inside = said.inside; bounds = said.bounds; unfit = said.unfit } in
+    let laws : HeldLaws = record { pairs = pairs; wanted = said.noted; sound = stored.sound; noted = stored.noted } in
+    λ store dir main rule calls state. run-held laws (fetch_from store) dir main rule calls state (store-gives c.read_laws.ensures.dyn store)
