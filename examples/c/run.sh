@@ -51,6 +51,7 @@ make_all() {
     run show app.img | tee shown
     slot=$(awk '$1 == "cap" && $NF == "greetings" { print $2; exit }' shown)
     run reach app.img "$slot" | tee reached
+    run init app open:libplugin.so try:libabsent.so || return 1
     run audit app.img app open:libplugin.so try:libabsent.so || return 1
     echo "\$ picture.py -o picture.html --word $slot --reached reached shown"
     "$tools/picture.py" -o picture.html --word "$slot" --reached reached shown || return 1

@@ -197,7 +197,7 @@ demo_command_passed words command h =
     let one = bind_passed (demo_words words) (λ number. Ok (Demo number)) command h in
     subst IsAccepted (same_command (Demo one.0) command one.2) (demo_passed words one.0 one.1)
 
-command_passed : (words : List Text) (command : Command) → command_of words ≡ Ok command → IsAccepted command
+pub command_passed : (words : List Text) (command : Command) → command_of words ≡ Ok command → IsAccepted command
 unfolding command_of
 command_passed [] command h = absurd (cc)
 command_passed (first ∷ words) command h =

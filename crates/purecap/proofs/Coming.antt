@@ -17,7 +17,8 @@ use Rattle.purecap.specs.declared.faults.Failure.{Failure}
 use Rattle.purecap.specs.declared.faults.Failure.TheVariants as failures
 use Rattle.purecap.specs.Faults.{failure_of, refusal_line}
 use Rattle.purecap.specs.Story.{Product, Saved, Story}
-use Rattle.purecap.specs.Answer.{ended_by, story_by, saved, state_image, note_lines}
+use Rattle.cap_loaded.specs.Images.{state_image}
+use Rattle.purecap.specs.Answer.{ended_by, story_by, saved, note_lines}
 use Rattle.purecap.specs.Run.{Count, Stream, streamed, Disk, IsStill, IsKept, IsUntouched, IsEndOf, EndsAs, Says}
 use Rattle.purecap.specs.Printing.{Told}
 use Rattle.purecap.specs.Calling.{Tells, Leads, LeadsOn, EndsCalls, HasCalled, IsEnded, Finishes, Comes, with_notes}

@@ -18,7 +18,8 @@ use Rattle.purecap.specs.Faults.{line_of}
 use Rattle.purecap.specs.LinkWords.{LinkWords}
 use Rattle.purecap.specs.Linking.{kind_of, link_failure, linked, linked_by}
 use Rattle.purecap.specs.Story.{Product, Printed, Stop, stop_at}
-use Rattle.purecap.specs.Answer.{demo_story, demo_text, state_image, summed}
+use Rattle.cap_loaded.specs.Images.{state_image}
+use Rattle.purecap.specs.Answer.{demo_story, demo_text, summed}
 use Rattle.purecap.specs.Demo.{demo_failure, demo_linked, demo_opened, demo_started, demo_store, link_for, linked_bytes, linked_parts, or_stop, product_bytes, summary_of}
 use Rattle.purecap.specs.Run.{Stream, Disk, IsStill, IsKept, IsUntouched, IsNothing, EndsAs, Says, Demos}
 use Rattle.purecap.specs.Printing.{PrintsTold}

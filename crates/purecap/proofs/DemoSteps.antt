@@ -33,7 +33,8 @@ use Rattle.purecap.specs.Faults.{failure_of}
 use Rattle.purecap.specs.LinkWords.{LinkWords}
 use Rattle.purecap.specs.Linking.{linked}
 use Rattle.purecap.specs.Story.{Product, Saved, Stop, stop_at}
-use Rattle.purecap.specs.Answer.{demo_text, state_image}
+use Rattle.cap_loaded.specs.Images.{state_image}
+use Rattle.purecap.specs.Answer.{demo_text}
 use Rattle.purecap.specs.Demo.{demo_linked, demo_opened, demo_started, link_for, linked_bytes, or_stop, product_bytes, summary_lines, summary_of, word_addresses}
 use Rattle.purecap.specs.Inputs.{StopsAs, Makes}
 use Rattle.purecap.specs.Run.{counted}

@@ -15,7 +15,8 @@ use Rattle.purecap.specs.ProgramWords.{ProgramWords}
 use Rattle.purecap.specs.Words.{Command, Show, Load, Link, Demo, Init, Reach, Audit}
 use Rattle.purecap.specs.Images.{image_in}
 use Rattle.purecap.specs.Story.{Product, Story, stopped}
-use Rattle.purecap.specs.Answer.{show_story, demo_story, reach_story, audit_story, audit_by, story_by, program_outcome, saved, called, compared, state_image}
+use Rattle.cap_loaded.specs.Images.{state_image}
+use Rattle.purecap.specs.Answer.{show_story, demo_story, reach_story, audit_story, audit_by, story_by, program_outcome, saved, called, compared}
 use Rattle.purecap.specs.Run.{Stream, Disk, IsKept, IsNothing, IsStarved, EndsAs, Says, IsEndOf, IsImageFile, IsCallList, IsComparison, IsAudited, Ends, IsOfWords}
 use Rattle.purecap.proofs.Ways.{is_of_words, or_fails}
 use Rattle.purecap.proofs.Coming.{end_is}

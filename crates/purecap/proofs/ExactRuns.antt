@@ -19,7 +19,8 @@ use Rattle.purecap.specs.ProgramWords.{ProgramWords}
 use Rattle.purecap.specs.Words.{Command, Show, Load, Link, Demo, Init, Reach, Audit, LoadWords, command_of}
 use Rattle.purecap.specs.Images.{image_in}
 use Rattle.purecap.specs.Story.{Product, Stop, stop_at, Story}
-use Rattle.purecap.specs.Answer.{ended_by, program_outcome, saved, called, compared, audit_by, audit_story, init_story, load_story, state_image}
+use Rattle.cap_loaded.specs.Images.{state_image}
+use Rattle.purecap.specs.Answer.{ended_by, program_outcome, saved, called, compared, audit_by, audit_story, init_story, load_story}
 use Rattle.purecap.specs.Run.{Stream, Disk, EndsAs, Loads, Inits, Audits, Ends, end_status, Runs}
 use Rattle.purecap.specs.Exact.{run_of, IsRefusedForBounds, IsExactOf, IsExactRun}
 use Rattle.purecap.proofs.ImageFails.{IsOfNoFile, fails_by, image_fails}

@@ -30,3 +30,5 @@ pub mod DemoEnds
 pub mod Causes
 pub mod Answered
 pub mod ExactRuns
+mod Neighbours
+pub mod LoadImages

@@ -12,7 +12,8 @@ use Rattle.purecap.specs.ProgramWords.{ProgramWords}
 use Rattle.purecap.specs.Words.{LoadWords}
 use Rattle.purecap.specs.Images.{image_in}
 use Rattle.purecap.specs.Story.{Product, Story, stopped}
-use Rattle.purecap.specs.Answer.{audit_by, audit_story, called, compared, program_outcome, saved, state_image, story_by}
+use Rattle.cap_loaded.specs.Images.{state_image}
+use Rattle.purecap.specs.Answer.{audit_by, audit_story, called, compared, program_outcome, saved, story_by}
 use Rattle.purecap.specs.Run.{Stream, Disk, IsStill, IsUntouched, EndsAs, Says, IsImageFile, IsCallList, IsComparison, IsAudited, Loads, Inits, Audits}
 use Rattle.purecap.specs.Printing.{Yields, YieldsOf}
 use Rattle.purecap.specs.Calling.{outcome_in, Comes}

@@ -1,16 +1,16 @@
 -- What the program answers to its words, over the files of a store.
-use Rattle.std.specs.Prelude.{ℕ, true, List, [], ◌∷◌, ◌++◌, map, Option, Some, None, Result, Ok, Err}
+use Rattle.std.specs.Prelude.{ℕ, List, [], ◌∷◌, ◌++◌, map, Option, Some, None, Result, Ok, Err}
 use Rattle.cap_base.specs.Outside.{Store, file_in}
 use Rattle.cap_base.specs.Steps.{◌>>=◌}
 use Rattle.cap_mem.specs.Tagged.{TaggedMemory}
-use Rattle.cap_scope.specs.Candidates.{hash_table}
 use Rattle.cap_image.specs.Parts.{ImageParts}
-use Rattle.cap_image.specs.Writing.{image_of, image_bytes}
+use Rattle.cap_image.specs.Writing.{image_bytes}
 use Rattle.cap_audit.specs.declared.finding.Finding.{Finding}
 use Rattle.cap_audit.specs.Findings.{findings}
 use Rattle.cap_audit.specs.Report.{report_of as findings_report}
 use Rattle.cap_session.specs.declared.refusal.OpenRefusal.{OpenRefusal}
-use Rattle.cap_session.specs.Loading.{fetch_from, records_of}
+use Rattle.cap_loaded.specs.Images.{state_image}
+use Rattle.cap_session.specs.Loading.{fetch_from}
 use Rattle.cap_session.specs.State.{State, memories_of}
 use Rattle.cap_session.specs.Calls.{Outcome, outcome_of}
 use Rattle.purecap.specs.declared.faults.Failure.{Failure}
@@ -36,13 +36,6 @@ show_story image file = printed image (shown file)
 -- `reach` from a slot of an image, of which the store has this
 abbrev pub reach_story : List ℕ → ℕ → Option (List ℕ) → Story
 reach_story image slot file = printed image (reached slot file)
-
--- the image of a state
-abbrev pub state_image : State → ImageParts
-state_image state = image_of
-    (map (λ o. (o.name, true)) state.objects)
-    (map (λ o. (hash_table (records_of o)).names) state.objects)
-    (memories_of state)
 
 -- what a program and its libraries come to over a store, once the calls were made
 abbrev pub program_outcome : ProgramWords → Store → Outcome

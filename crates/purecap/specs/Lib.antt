@@ -18,3 +18,5 @@ pub mod Calling
 pub mod Inputs
 pub mod Summing
 pub mod Exact
+pub mod Beside
+pub mod LoadImage

@@ -19,7 +19,7 @@ use Rattle.purecap.specs.declared.faults.Failure.{Failure}
 use Rattle.purecap.specs.declared.faults.Failure.TheVariants.{NoMemory}
 use Rattle.purecap.specs.Faults.{failure_of, line_of}
 use Rattle.purecap.specs.WordRules.{is_long, is_path}
-use Rattle.purecap.specs.Answer.{state_image}
+use Rattle.cap_loaded.specs.Images.{state_image}
 use Rattle.purecap.specs.Demo.{demo_opened, summary_lines, summary_of}
 use Rattle.purecap.specs.Run.{Stream, Says}
 use Rattle.purecap.specs.Story.{Stop, stop_at}

@@ -1,10 +1,14 @@
-//! The real files and streams. They tell no contents, and each error that they answer is counted as a fault.
+//! The real files. They tell no contents, and each error that they answer is counted as a fault.
 
-ghost use Rattle.std.specs.Prelude.{None, ◌≡◌, ◌≤◌};
-ghost use Rattle.cap_base.specs.Outside.{Rose, count_of, count_of-fits};
+ghost use Rattle.std.specs.Prelude.{None, ◌≡◌, IfOk};
+ghost use Rattle.cap_base.specs.Outside.{count_of, count_of-fits};
 
-use cap_base::{Failed, Files, Opened, Sink};
-use std::io::{ErrorKind, Read, Write};
+use crate::attempts::read_again;
+use crate::counts::raise;
+use crate::output::Output;
+use cap_base::{Failed, Files, Opened};
+use std::alloc::AllocError;
+use std::io::ErrorKind;
 use std::{fs, rt};
 
 /// Files on a disk.
@@ -12,28 +16,28 @@ use std::{fs, rt};
 pub struct DiskFiles<'a, R: rt::Files> {
     rt: &'a R,
     reading: Option<R::File>,
-    writing: Option<R::File>,
+    output: Output<'a, R>,
     read_faults: u64,
     write_faults: u64,
 }
 
-impl<'a, R: rt::Files> DiskFiles<'a, R> {
+impl<'a, R: rt::Files + AllocGlobal> DiskFiles<'a, R> {
     /// Files on the disk of this runtime. None is open, and no fault is counted.
-    pub fn new(rt: &'a R) -> Self
-        ensures reads { result.read_faults ≡ 0 }
-        ensures writes { result.write_faults ≡ 0 }
+    pub fn new(rt: &'a R) -> Result<Self, AllocError>
+        ensures reads { IfOk result (λ disk. disk.read_faults ≡ 0) }
+        ensures writes { IfOk result (λ disk. disk.write_faults ≡ 0) }
     {
-        DiskFiles {
+        Ok(DiskFiles {
             rt,
             reading: None,
-            writing: None,
+            output: Output::new(rt)?,
             read_faults: 0,
             write_faults: 0,
-        }
+        })
     }
 }
 
-impl<R: rt::Files> Files for DiskFiles<'_, R> {
+impl<R: rt::Files + AllocGlobal> Files for DiskFiles<'_, R> {
     ghost told = { λ _. None };
 
     ghost rest = { λ _. None };
@@ -66,7 +70,7 @@ impl<R: rt::Files> Files for DiskFiles<'_, R> {
         let Some(file) = &mut self.reading else {
             return Ok(0);
         };
-        match file.read(buf) {
+        match read_again(file, buf) {
             Ok(n) => Ok(n),
             Err(_) => Err(raise(&mut self.read_faults)),
         }
@@ -74,75 +78,24 @@ impl<R: rt::Files> Files for DiskFiles<'_, R> {
 
     fn create(&mut self, name: &str) -> Result<(), Failed> {
         self.reading = None;
-        self.writing = None;
-        match fs::create(self.rt, name) {
-            Ok(file) => {
-                self.writing = Some(file);
-                Ok(())
-            }
+        match self.output.begin(name) {
+            Ok(()) => Ok(()),
             Err(_) => Err(raise(&mut self.write_faults)),
         }
     }
 
     fn write(&mut self, bytes: &[u8]) -> Result<usize, Failed> {
-        let Some(file) = &mut self.writing else {
-            return Ok(bytes.len());
-        };
-        match file.write(bytes) {
-            Ok(n) if n > 0 || bytes.is_empty() => Ok(n),
-            _ => Err(raise(&mut self.write_faults)),
+        match self.output.write(bytes) {
+            Ok(n) => Ok(n),
+            Err(_) => Err(raise(&mut self.write_faults)),
         }
     }
 
     fn finish(&mut self) -> Result<(), Failed> {
         self.reading = None;
-        let Some(mut file) = self.writing.take() else {
-            return Ok(());
-        };
-        if file.flush().is_err() {
-            self.writing = Some(file);
-            return Err(raise(&mut self.write_faults));
-        }
-        Ok(())
-    }
-}
-
-/// A standard stream.
-#[derive(Drop)]
-pub struct StdSink<W: Write + Drop> {
-    writer: W,
-    faults: u64,
-}
-
-impl<W: Write + Drop> StdSink<W> {
-    /// The stream that this writer writes to, with no fault counted.
-    pub fn new(writer: W) -> Self
-        ensures { result.faults ≡ 0 }
-    {
-        StdSink { writer, faults: 0 }
-    }
-}
-
-impl<W: Write + Drop> Sink for StdSink<W> {
-    ghost told = { λ _. None };
-
-    ghost faults = { λ sink. count_of sink.faults };
-
-    ghost count_ends = { λ sink. count_of-fits sink.faults };
-
-    fn write(&mut self, bytes: &[u8]) -> Result<usize, Failed> {
-        match self.writer.write(bytes) {
-            Ok(n) if n > 0 || bytes.is_empty() => Ok(n),
-            _ => Err(raise(&mut self.faults)),
+        match self.output.finish() {
+            Ok(()) => Ok(()),
+            Err(_) => Err(raise(&mut self.write_faults)),
         }
     }
-}
-
-// One more fault is counted. The count stops at its last value.
-fn raise(count: &mut u64) -> Failed
-    ensures later { count_of count.old ≤ count_of count.new }
-    ensures rose { Rose (count_of count.old) (count_of count.new) }
-{
-    *count = count.saturating_add(1);
-    Failed
 }

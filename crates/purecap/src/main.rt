@@ -18,7 +18,9 @@
 //! It knows no format: images stand in `cap_image`, sessions in `cap_session`, and the linker in `cap_link`.
 #![tactic(auto)]
 
+mod attempts;
 mod auditing;
+mod counts;
 mod demo;
 mod disk;
 mod faults;
@@ -26,19 +28,24 @@ mod given;
 mod images;
 mod initial;
 mod linking;
+mod links;
 mod loading;
+mod names;
+mod output;
 mod printing;
 mod program;
 mod reaching;
 mod running;
 mod saving;
 mod showing;
+mod streams;
 mod summary;
 mod words;
 
-use crate::disk::{DiskFiles, StdSink};
+use crate::disk::DiskFiles;
 use crate::given::given_words;
 use crate::running::run;
+use crate::streams::StdSink;
 use std::process::ExitCode;
 
 const OUT_OF_MEMORY: u8 = 12;
@@ -47,7 +54,9 @@ fn main(rt: HostRuntime) -> ExitCode {
     let Ok(words) = given_words(&rt) else {
         return ExitCode::from(OUT_OF_MEMORY);
     };
-    let mut files = DiskFiles::new(&rt);
+    let Ok(mut files) = DiskFiles::new(&rt) else {
+        return ExitCode::from(OUT_OF_MEMORY);
+    };
     let mut out = StdSink::new(rt.stdout());
     let mut err = StdSink::new(rt.stderr());
     let mut kept = Vec::new(rt.alloc());

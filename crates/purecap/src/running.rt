@@ -3,6 +3,7 @@
 ghost use Rattle.std.specs.Prelude.{◌≡◌, []};
 ghost use Rattle.purecap.specs.Words.{command_of as command_in};
 ghost use Rattle.purecap.specs.Exact.{IsExactRun};
+ghost use Rattle.purecap.specs.LoadImage.{IsImageRun, RunsTellImages};
 ghost use Rattle.purecap.specs.Run.{counted, streamed, stored, Runs, Answers, HasCauses, Ends, end_status as status_of_end};
 
 use crate::auditing::audit;
@@ -14,8 +15,11 @@ use crate::loading::load;
 use crate::reaching::reach;
 use crate::showing::show;
 use crate::words::{Command, command_of};
+use cap_audit::audit_laws;
 use cap_base::{Files, Sink, Words};
 use cap_exact::exact_laws;
+use cap_init::call_laws;
+use cap_loaded::loaded_laws;
 use cap_mem::Memory;
 use std::alloc::Global;
 
@@ -60,9 +64,23 @@ pub fn run<F: Files, O: Sink, E: Sink>(
 
     // No bounds of a file that `link` wrote are refused, and the data of all such files that are loaded lie apart.
     ensures exact { IsExactRun (command_in words.now) (F.told files.old) result }
+
+    // `audit` tells the image that `load` would write from all others, and what `init` prints are entries of that image.
+    ensures image { IsImageRun (command_in words.now) (F.told files.old)
+        (streamed (O.told out.old) (O.told out.new) (O.faults out.old) (O.faults out.new)) result }
 {
     exact_laws();
+    image_laws();
     perform(alloc, words, files, out, err, kept)
+}
+
+// What every run says of the image that `load` would write.
+fn image_laws()
+    ensures { RunsTellImages }
+{
+    loaded_laws();
+    audit_laws();
+    call_laws();
 }
 
 // Does what the words ask for, and gives the status of its end.

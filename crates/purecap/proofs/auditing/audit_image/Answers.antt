@@ -1,6 +1,7 @@
 use Rattle.std.proofs.Common.{refl}
 use Rattle.std.proofs.lemmas.Result.{err_from_is_err_and}
-use Rattle.purecap.specs.Answer.{compared, state_image}
+use Rattle.cap_loaded.specs.Images.{state_image}
+use Rattle.purecap.specs.Answer.{compared}
 use Rattle.purecap.specs.ProgramWords.{program_meant}
 use Rattle.purecap.specs.Run.{IsComparison}
 use Rattle.purecap.specs.Calling.{outcome_in}

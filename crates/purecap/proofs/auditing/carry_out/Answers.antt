@@ -1,6 +1,7 @@
 use Rattle.std.proofs.Common.{refl, ap}
 use Rattle.std.proofs.lemmas.Result.{err_from_is_err_and}
-use Rattle.purecap.specs.Answer.{compared, state_image}
+use Rattle.cap_loaded.specs.Images.{state_image}
+use Rattle.purecap.specs.Answer.{compared}
 use Rattle.purecap.specs.Run.{IsComparison}
 use Rattle.purecap.proofs.Coming.{comes_ended, comes_finished, image_is}
 use Rattle.purecap.proofs.Ended.{compared_is}

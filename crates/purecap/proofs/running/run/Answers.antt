@@ -11,3 +11,6 @@ returns-clause-causes g c = causes_of _ _ _ _ _ _ c.perform.ensures
 
 pub returns-clause-exact : goal.returns-clause-exact
 returns-clause-exact g c = exact_run c.exact_laws.ensures _ _ _ _ _ _ c.perform.ensures
+
+pub returns-clause-image : goal.returns-clause-image
+returns-clause-image g c = c.image_laws.ensures _ _ _ _ _ _ c.perform.ensures
