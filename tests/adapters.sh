@@ -118,5 +118,88 @@ prints "${differs[@]}"
 expect "a difference to a full error output" 15 "" to_file_and_full audit alone.img app open:libplugin.so
 prints "${differs[@]}"
 
+# What has the path of an output: the file that was there or the whole new one, wherever a run ends.
+holds() {
+    if ! cmp -s "$1" "$2"; then
+        echo "$3: $1 isn't $2"
+        failed=1
+    fi
+}
+# The word that is wanted, and the one that is found.
+same() {
+    if [ "$1" != "$2" ]; then
+        echo "$3: $2"
+        failed=1
+    fi
+}
+no_leftovers() { same "" "$(find "$1" -maxdepth 1 -name '.purecap.*' -printf '%f ')" "$2: left over"; }
+
+cp empty old.img
+chmod 640 old.img
+exec 3< old.img
+expect "an image in the place of a file that is being read" 0 "" "$program" load -o old.img app
+holds old.img alone.img "the new file"
+cat <&3 > read.img
+exec 3<&-
+holds read.img empty "who read the old file"
+same 640 "$(stat -c %a old.img)" "the permissions of the file that was there"
+
+cp empty target.img
+ln -s target.img link.img
+expect "an image through a link" 0 "" "$program" load -o link.img app
+same target.img "$(readlink link.img)" "the link"
+holds target.img alone.img "the file that the link leads to"
+ln -s loop.img loop.img
+expect "an image through a link to itself" 11 "purecap: loop.img: write fault" "$program" load -o loop.img app
+
+cp greet.o both
+expect "an output that is an input" 0 "" "$program" link -o both --shared libgreet.so both
+holds both libgreet.so "the output in the place of its input"
+
+mkfifo pipe
+cat pipe > piped &
+expect "an image into a pipe" 0 "" "$program" load -o pipe app
+wait $!
+holds piped alone.img "what came through the pipe"
+[ -p pipe ] || { echo "the pipe is no pipe any more"; failed=1; }
+"$program" load -o /dev/stdout app | cmp - alone.img || failed=1
+no_leftovers . "runs that end"
+
+# A process that may write no file of more than 8 KiB is killed in the middle of its output, or told that it can't.
+cp empty kept.img
+{
+    (ulimit -f 8; exec "$program" load -o kept.img app) > cut 2>&1
+    ended=$?
+} 2> /dev/null
+[ "$ended" = 11 ] || [ "$ended" = 153 ] || { echo "an output that is cut: status $ended, $(cat cut)"; failed=1; }
+holds kept.img empty "the file that was there when the output was cut"
+[ "$ended" = 153 ] || no_leftovers . "an output that is cut"
+rm -f .purecap.*
+told=$((told + 1))
+
+if mkdir full && mount -t tmpfs -o size=16k none full 2> errors; then
+    cp empty full/app.img
+    expect "an image on a full disk" 11 "purecap: full/app.img: write fault" "$program" load -o full/app.img app
+    holds full/app.img empty "the file that was there when the disk was full"
+    no_leftovers full "a full disk"
+    umount full
+else
+    echo "skipped: no right to mount a small disk"
+fi
+
+# A folder without rights, for a user who has none over all.
+chmod 755 "$folder"
+mkdir -m 555 closed
+cp empty closed/app.img
+by_nobody() { "$program" "$@"; }
+if [ "$(id -u)" = 0 ]; then by_nobody() { setpriv --reuid 65534 --clear-groups "$program" "$@"; }; fi
+if by_nobody show empty > shown 2>&1; then
+    expect "an image in a folder without rights" 11 "purecap: closed/app.img: write fault" by_nobody load -o closed/app.img app
+    holds closed/app.img empty "the file in a folder without rights"
+    expect "a new image in a folder without rights" 11 "purecap: closed/new.img: write fault" by_nobody load -o closed/new.img app
+else
+    echo "skipped: no user without rights to run as"
+fi
+
 [ "$failed" = 0 ] && echo "the words, files and streams of the program: $told runs end as they should"
 exit $failed

@@ -1,12 +1,14 @@
 /* Makes calls of the system fail or fall short; to be loaded before the C library.
 
-   Calls of open, and of read and write on what was opened, are counted from 1. FAILING_CALL is the number of the one
-   that fails; SHORTEST_CALLS is how many bytes a read or write moves at most, on standard output too. 0 is none. */
+   Calls of open, of read and write on what was opened, of fsync and of rename are counted from 1. FAILING_CALL is the
+   number of the one that fails; SHORTEST_CALLS is how many bytes a read or write moves at most, on standard output too;
+   INTERRUPTED is how often a signal interrupts each read and write before it comes through. 0 is none. */
 #define _GNU_SOURCE
 #include <dlfcn.h>
 #include <errno.h>
 #include <fcntl.h>
 #include <stdarg.h>
+#include <stdio.h>
 #include <stdlib.h>
 #include <unistd.h>
 
@@ -20,6 +22,14 @@ static long told(const char *name) {
 static int fails(void) {
     if (++count != told("FAILING_CALL")) return 0;
     errno = EIO;
+    return 1;
+}
+
+static int interrupted(void) {
+    static long times;
+    if (times == told("INTERRUPTED")) return times = 0;
+    times++;
+    errno = EINTR;
     return 1;
 }
 
@@ -50,11 +60,23 @@ OPENS(open64, const char *path, path)
 OPENS(openat, IN_FOLDER, folder, path)
 
 ssize_t read(int file, void *into, size_t bytes) {
+    if (interrupted()) return -1;
     if (file > 2 && fails()) return -1;
     REAL(read, file, into, shortened(bytes));
 }
 
 ssize_t write(int file, const void *from, size_t bytes) {
+    if (interrupted()) return -1;
     if (file > 2 && fails()) return -1;
     REAL(write, file, from, shortened(bytes));
+}
+
+int fsync(int file) {
+    if (fails()) return -1;
+    REAL(fsync, file);
+}
+
+int rename(const char *from, const char *to) {
+    if (fails()) return -1;
+    REAL(rename, from, to);
 }

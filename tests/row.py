@@ -44,10 +44,11 @@ class Run:
     longest_file: int | None = None          # no file can become longer
     failing_call: int | None = None          # the number of the call of the system that fails
     shortest_calls: int | None = None        # a read or write moves this many bytes at most
+    interruptions: int | None = None         # a signal interrupts each read and write this often
 
     @property
     def is_interposed(self) -> bool:
-        return self.failing_call is not None or self.shortest_calls is not None
+        return any((self.failing_call, self.shortest_calls, self.interruptions))
 
 
 @dataclass
@@ -129,7 +130,7 @@ class Tester:
         environment = dict(os.environ)
         if run.is_interposed:
             environment |= {"LD_PRELOAD": str(self.interposed), "FAILING_CALL": str(run.failing_call or 0),
-                            "SHORTEST_CALLS": str(run.shortest_calls or 0)}
+                            "SHORTEST_CALLS": str(run.shortest_calls or 0), "INTERRUPTED": str(run.interruptions or 0)}
         ended = subprocess.run([self.program, *words], cwd=folder, env=environment, stdin=subprocess.DEVNULL,
                                stdout=stdout, stderr=subprocess.PIPE, timeout=120, restore_signals=False,
                                preexec_fn=limit_files(run.longest_file) if run.longest_file else None)
