@@ -88,6 +88,146 @@ cmp again.img alone.img || failed=1
 expect "a refusal that can't be told" 0 "" errors_to_closed load -o quiet.img app try:gone.so
 cmp quiet.img alone.img || failed=1
 
+# What an output leaves: the file that was there, or all of the new one, and nothing beside it.
+
+# holds NAME FILE WANTED: FILE must have what WANTED has, and no file of an unfinished run may stand beside it
+holds() {
+    if ! cmp "$2" "$3" || compgen -G "$(dirname "$2")/.purecap.*"; then
+        echo "$1: not the file that is wanted, or more than it"
+        failed=1
+    fi
+}
+is() {
+    local name=$1
+    shift
+    "$@" || { echo "$name: not so: $*"; failed=1; }
+}
+
+mkdir out
+cp app.img out/i
+chmod 640 out/i
+expect "an image in the place of another" 0 "" "$program" load -o out/i app
+holds "an image in the place of another" out/i alone.img
+is "an image in the place of another" test "$(stat -c %a out/i)" = 640
+cp main.o own.o
+expect "an output that is an input" 0 "" "$program" link -o own.o own.o counter.o libgreet.so
+holds "an output that is an input" own.o app
+mkdir taken
+touch taken/.purecap.0 taken/.purecap.1
+expect "names beside the output that are taken" 0 "" "$program" load -o taken/i app
+is "names beside the output that are taken" test "$(cd taken && echo .p* && cat .p* && cmp i ../alone.img)" = ".purecap.0 .purecap.1"
+
+mkdir led
+ln -s led/i link
+ln -s ../link led/link
+ln -s "$folder/led/i" led/whole
+ln -s led/gone/i link_to_gone
+ln -s circle circle
+expect "a link to a file that isn't there" 0 "" "$program" load -o link app
+holds "a link to a file that isn't there" led/i alone.img
+for link in link led/link led/whole; do
+    cp app.img led/i
+    expect "an output by $link" 0 "" "$program" load -o "$link" app
+    holds "an output by $link" led/i alone.img
+done
+is "links that stay" test -L link -a -L led/link -a -L led/whole
+expect "a link into a missing folder" 11 "purecap: link_to_gone: write fault" "$program" load -o link_to_gone app
+expect "a link in a circle" 11 "purecap: circle: write fault" "$program" load -o circle app
+
+mkfifo pipe
+timeout 60 cat pipe > piped &
+expect "an output that is a pipe" 0 "" "$program" load -o pipe app
+wait
+holds "an output that is a pipe" piped alone.img
+is "a pipe that stays" test -p pipe
+to_old() { "$program" load -o /dev/stdout app > out/old; }
+touch out/old
+ln out/old out/same
+expect "an output that is standard output" 0 "" to_old
+holds "an output that is standard output" out/same alone.img
+
+# Sizes that a process may not pass, as a fault and as a signal that ends it in mid-write.
+cp app.img out/i
+past_limit() { (trap "" XFSZ; ulimit -f 8; exec "$program" load -o out/i app); }
+expect "an output past the limit of the process" 11 "purecap: out/i: write fault" past_limit
+holds "an output past the limit of the process" out/i app.img
+{ (ulimit -c 0 -f 8; exec "$program" load -o out/i app); ended=$?; } 2> /dev/null
+is "a signal in mid-write" test "$ended $(stat -c %s out/.purecap.0)" = "153 8192"
+is "a signal in mid-write" cmp out/i app.img
+expect "an output beside what a run left" 0 "" "$program" load -o out/i app
+rm out/.purecap.0
+holds "an output beside what a run left" out/i alone.img
+
+# Runs that are killed at once, until one was in mid-write.
+big='from objects import *; open("big", "wb").write(shared(segments=[Segment(0, 4096, READ), Segment(8192, 1 << 24, READ_WRITE, 0)]))'
+PYTHONPATH=$root/tests python3 -c "$big"
+"$program" load -o big.img big
+mkdir killed
+in_mid_write=
+for _ in {1..10}; do
+    cp app.img killed/i
+    "$program" load -o killed/i big &
+    until [ -e killed/.purecap.0 ] || ! kill -0 $!; do :; done
+    kill -KILL $!
+    wait $!
+    if [ -e killed/.purecap.0 ]; then
+        is "a run that is killed" cmp killed/i app.img
+        in_mid_write=1
+        break
+    fi
+    is "a run that ends before it is killed" cmp killed/i big.img
+done 2> /dev/null
+[ "$in_mid_write" ] || echo "no run could be killed in mid-write: skipped"
+
+# A reader of the path, while two images take turns.
+cp app.img read.img
+while [ ! -e stop ]; do cksum < read.img; done > sums &
+for _ in {1..10}; do
+    "$program" load -o read.img app
+    "$program" load -o read.img app open:libplugin.so
+done
+touch stop
+wait
+is "a reader sees one of the two images" test -s sums
+is "a reader sees one of the two images" test -z "$(grep -vx -e "$(cksum < app.img)" -e "$(cksum < alone.img)" sums)"
+
+# A full disk.
+mkdir small
+if [ "$(id -u)" = 0 ] && mount -t tmpfs -o size=64k none small 2> /dev/null; then
+    trap 'umount "$folder/small"; rm -rf "$folder"' EXIT
+    cp alone.img small/i
+    expect "a full disk" 11 "purecap: small/i: write fault" "$program" load -o small/i app open:libplugin.so
+    holds "a full disk" small/i alone.img
+    expect "a full disk" 11 "purecap: small/j: write fault" "$program" load -o small/j app open:libplugin.so
+    holds "a full disk" small/i alone.img
+    is "a full disk" test ! -e small/j
+else
+    echo "no rights to mount a small disk: skipped"
+fi
+
+# A folder without rights, for a user that isn't root.
+as_other=()
+[ "$(id -u)" = 0 ] && as_other=(setpriv --reuid 65534 --regid 65534 --clear-groups)
+mkdir shut free
+cp app.img shut/i
+cp app.img free/i
+cp "$program" other
+chmod 755 . other
+chmod 666 shut/i
+chmod 444 free/i
+chmod 555 shut
+chmod 777 free
+if "${as_other[@]}" ./other show empty > /dev/null 2>&1; then
+    expect "an output in a folder without rights" 11 "purecap: shut/i: write fault" "${as_other[@]}" ./other load -o shut/i app
+    holds "an output in a folder without rights" shut/i app.img
+    expect "a new output in a folder without rights" 11 "purecap: shut/j: write fault" "${as_other[@]}" ./other load -o shut/j app
+    expect "an output without rights" 11 "purecap: free/i: write fault" "${as_other[@]}" ./other load -o free/i app
+    holds "an output without rights" free/i app.img
+else
+    echo "no other user can be taken: a folder without rights is skipped"
+fi
+chmod 755 shut
+
 # prints LINE..: the file of the last run's standard output must hold these lines alone
 prints() {
     if ! printf '%s\n' "$@" | cmp -s - printed; then
@@ -117,89 +257,6 @@ expect "a difference that can't be told" 15 "" to_file_and_closed audit alone.im
 prints "${differs[@]}"
 expect "a difference to a full error output" 15 "" to_file_and_full audit alone.img app open:libplugin.so
 prints "${differs[@]}"
-
-# What has the path of an output: the file that was there or the whole new one, wherever a run ends.
-holds() {
-    if ! cmp -s "$1" "$2"; then
-        echo "$3: $1 isn't $2"
-        failed=1
-    fi
-}
-# The word that is wanted, and the one that is found.
-same() {
-    if [ "$1" != "$2" ]; then
-        echo "$3: $2"
-        failed=1
-    fi
-}
-no_leftovers() { same "" "$(find "$1" -maxdepth 1 -name '.purecap.*' -printf '%f ')" "$2: left over"; }
-
-cp empty old.img
-chmod 640 old.img
-exec 3< old.img
-expect "an image in the place of a file that is being read" 0 "" "$program" load -o old.img app
-holds old.img alone.img "the new file"
-cat <&3 > read.img
-exec 3<&-
-holds read.img empty "who read the old file"
-same 640 "$(stat -c %a old.img)" "the permissions of the file that was there"
-
-cp empty target.img
-ln -s target.img link.img
-expect "an image through a link" 0 "" "$program" load -o link.img app
-same target.img "$(readlink link.img)" "the link"
-holds target.img alone.img "the file that the link leads to"
-ln -s loop.img loop.img
-expect "an image through a link to itself" 11 "purecap: loop.img: write fault" "$program" load -o loop.img app
-
-cp greet.o both
-expect "an output that is an input" 0 "" "$program" link -o both --shared libgreet.so both
-holds both libgreet.so "the output in the place of its input"
-
-mkfifo pipe
-cat pipe > piped &
-expect "an image into a pipe" 0 "" "$program" load -o pipe app
-wait $!
-holds piped alone.img "what came through the pipe"
-[ -p pipe ] || { echo "the pipe is no pipe any more"; failed=1; }
-"$program" load -o /dev/stdout app | cmp - alone.img || failed=1
-no_leftovers . "runs that end"
-
-# A process that may write no file of more than 8 KiB is killed in the middle of its output, or told that it can't.
-cp empty kept.img
-{
-    (ulimit -f 8; exec "$program" load -o kept.img app) > cut 2>&1
-    ended=$?
-} 2> /dev/null
-[ "$ended" = 11 ] || [ "$ended" = 153 ] || { echo "an output that is cut: status $ended, $(cat cut)"; failed=1; }
-holds kept.img empty "the file that was there when the output was cut"
-[ "$ended" = 153 ] || no_leftovers . "an output that is cut"
-rm -f .purecap.*
-told=$((told + 1))
-
-if mkdir full && mount -t tmpfs -o size=16k none full 2> errors; then
-    cp empty full/app.img
-    expect "an image on a full disk" 11 "purecap: full/app.img: write fault" "$program" load -o full/app.img app
-    holds full/app.img empty "the file that was there when the disk was full"
-    no_leftovers full "a full disk"
-    umount full
-else
-    echo "skipped: no right to mount a small disk"
-fi
-
-# A folder without rights, for a user who has none over all.
-chmod 755 "$folder"
-mkdir -m 555 closed
-cp empty closed/app.img
-by_nobody() { "$program" "$@"; }
-if [ "$(id -u)" = 0 ]; then by_nobody() { setpriv --reuid 65534 --clear-groups "$program" "$@"; }; fi
-if by_nobody show empty > shown 2>&1; then
-    expect "an image in a folder without rights" 11 "purecap: closed/app.img: write fault" by_nobody load -o closed/app.img app
-    holds closed/app.img empty "the file in a folder without rights"
-    expect "a new image in a folder without rights" 11 "purecap: closed/new.img: write fault" by_nobody load -o closed/new.img app
-else
-    echo "skipped: no user without rights to run as"
-fi
 
 [ "$failed" = 0 ] && echo "the words, files and streams of the program: $told runs end as they should"
 exit $failed

@@ -1,8 +1,9 @@
 /* Makes calls of the system fail or fall short; to be loaded before the C library.
 
-   Calls of open, of read and write on what was opened, of fsync and of rename are counted from 1. FAILING_CALL is the
+   Calls of open, fsync and rename, and of read and write on what was opened, are counted from 1. FAILING_CALL is the
    number of the one that fails; SHORTEST_CALLS is how many bytes a read or write moves at most, on standard output too;
-   INTERRUPTED is how often a signal interrupts each read and write before it comes through. 0 is none. */
+   where INTERRUPTED_CALLS is 1, a signal interrupts each second call of open, read and write, on standard output too,
+   which is not counted. 0 is none. */
 #define _GNU_SOURCE
 #include <dlfcn.h>
 #include <errno.h>
@@ -25,12 +26,12 @@ static int fails(void) {
     return 1;
 }
 
-static int interrupted(void) {
-    static long times;
-    if (times == told("INTERRUPTED")) return times = 0;
-    times++;
+static int is_interrupted(void) {
+    static int turn;
+    if (!told("INTERRUPTED_CALLS")) return 0;
+    turn = !turn;
     errno = EINTR;
-    return 1;
+    return turn;
 }
 
 static size_t shortened(size_t bytes) {
@@ -50,7 +51,7 @@ static size_t shortened(size_t bytes) {
         va_start(rest, flags); \
         mode_t mode = flags & O_CREAT ? va_arg(rest, mode_t) : 0; \
         va_end(rest); \
-        if (fails()) return -1; \
+        if (is_interrupted() || fails()) return -1; \
         REAL(name, __VA_ARGS__, flags, mode); \
     }
 #define IN_FOLDER int folder, const char *path
@@ -60,14 +61,12 @@ OPENS(open64, const char *path, path)
 OPENS(openat, IN_FOLDER, folder, path)
 
 ssize_t read(int file, void *into, size_t bytes) {
-    if (interrupted()) return -1;
-    if (file > 2 && fails()) return -1;
+    if (is_interrupted() || (file > 2 && fails())) return -1;
     REAL(read, file, into, shortened(bytes));
 }
 
 ssize_t write(int file, const void *from, size_t bytes) {
-    if (interrupted()) return -1;
-    if (file > 2 && fails()) return -1;
+    if (is_interrupted() || (file > 2 && fails())) return -1;
     REAL(write, file, from, shortened(bytes));
 }
 

@@ -10,18 +10,20 @@ wide = shared(segments=(Segment(0, 0x1000, READ), Segment(0x2000, 0x20000, READ_
 wide_image = image([Mapped(0x40000000, "m", wide.ljust(0x22000, b"\0"), [])])
 
 
-def failing(call: int, status: int, line: str) -> Run:
-    return Run(LOADING, status, err=line, failing_call=call)
+def failing(call: int, status: int, line: str, created: dict[str, bytes]) -> Run:
+    return Run(LOADING, status, err=line, created=created, failing_call=call)
 
 
-# Each file is opened, read, and read once more to its end; the image is opened beside its path, written, brought to the
-# disk and renamed.
+# Each file is opened, read, and read once more to its end. The image is created beside its name, written, brought to
+# the disk and renamed; where there is an older one, that is opened first.
 FAILING = [
-    *(failing(call, 10, "app: read fault") for call in (1, 2, 3)),
-    *(failing(call, 10, "lib/libh.so: read fault") for call in (4, 5, 6)),
-    *(failing(call, 10, "lib/libp.so: read fault") for call in (7, 8, 9)),
-    *(failing(call, 11, "img: write fault") for call in (10, 11, 12, 13)),
-    Run(LOADING, created={"img": img}, failing_call=14)]
+    *(failing(call, 10, "app: read fault", {}) for call in (1, 2, 3)),
+    *(failing(call, 10, "lib/libh.so: read fault", {}) for call in (4, 5, 6)),
+    *(failing(call, 10, "lib/libp.so: read fault", {}) for call in (7, 8, 9)),
+    *(failing(call, 11, "img: write fault", {}) for call in (10, 11, 12, 13)),
+    failing(14, 0, "", {"img": img}),
+    *(failing(call, 11, "img: write fault", {}) for call in (10, 11, 12, 13, 14)),
+    failing(15, 0, "", {"img": img})]
 
 # A program, a library that it needs and one that it opens.
 STARTING = {"p": starting("x.so"), "lib/x.so": starting(), "lib/y.so": starting()}
@@ -56,7 +58,8 @@ ROWS = [
         Run("link -o gone/out h.o", 11, err="gone/out: write fault")]),
     Row("an image whose second part can't be written", {"m": wide}, [
         Run("load -o i m", created={"i": wide_image}),
-        Run("load -o j m", 11, err="j: write fault", longest_file=65536)]),
+        Run("load -o j m", 11, err="j: write fault", longest_file=65536),
+        Run("load -o i m", 11, err="i: write fault", longest_file=65536)]),
     Row("a linked file that can't be written", {"h.o": h_o}, [
         Run("link -o /dev/full h.o", 11, err="/dev/full: write fault")]),
     Row("a report that can't be written", {"i": img}, [Run("show i", 11, err="-: write fault", stdout="/dev/full")]),
@@ -93,15 +96,13 @@ ROWS = [
         Run(AUDITS, out="findings 0\n", err=NOT_THERE, failing_call=14)]),
     Row("the end of an image can't be read", {"i": image([])}, [
         Run("show i", 10, err="i: read fault", failing_call=call) for call in (1, 2, 3)]),
-    Row("a failed call of the system leaves the image that was there", FILES | {"img": OTHER}, [
-        *(failing(call, 11, "img: write fault") for call in (10, 11, 12, 13, 14)),
-        Run(LOADING, created={"img": img}, failing_call=15)]),
-    Row("reads and writes that a signal interrupts", FILES, [
-        run for often in (1, 3) for run in (Run(LOADING, created={"img": img}, interruptions=often),
-                                            Run("show img", out=REPORT, interruptions=often))]),
     Row("reads and writes of a byte each, and of seven", FILES, [
         run for most in (1, 7) for run in (Run(LOADING, created={"img": img}, shortest_calls=most),
                                            Run("show img", out=REPORT, shortest_calls=most))]),
+    Row("calls that are interrupted", FILES | STARTING, [
+        Run(LOADING, created={"img": img}, interrupted_calls=True),
+        Run(LOADING, created={"img": img}, interrupted_calls=True, shortest_calls=7),
+        Run("show img", out=REPORT, interrupted_calls=True), Run(STARTS, out=STARTED, interrupted_calls=True)]),
     *(Row(f"reads and writes of {most} bytes at the most, where no file is written",
           FILES | STARTING | {"img": img, "other": OTHER}, [
         Run(STARTS, out=STARTED, shortest_calls=most), Run(REACHES, out=REACHED, shortest_calls=most),

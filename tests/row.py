@@ -44,11 +44,11 @@ class Run:
     longest_file: int | None = None          # no file can become longer
     failing_call: int | None = None          # the number of the call of the system that fails
     shortest_calls: int | None = None        # a read or write moves this many bytes at most
-    interruptions: int | None = None         # a signal interrupts each read and write this often
+    interrupted_calls: bool = False          # a signal interrupts each second call of open, read and write
 
     @property
     def is_interposed(self) -> bool:
-        return any((self.failing_call, self.shortest_calls, self.interruptions))
+        return self.failing_call is not None or self.shortest_calls is not None or self.interrupted_calls
 
 
 @dataclass
@@ -130,7 +130,8 @@ class Tester:
         environment = dict(os.environ)
         if run.is_interposed:
             environment |= {"LD_PRELOAD": str(self.interposed), "FAILING_CALL": str(run.failing_call or 0),
-                            "SHORTEST_CALLS": str(run.shortest_calls or 0), "INTERRUPTED": str(run.interruptions or 0)}
+                            "SHORTEST_CALLS": str(run.shortest_calls or 0),
+                            "INTERRUPTED_CALLS": str(int(run.interrupted_calls))}
         ended = subprocess.run([self.program, *words], cwd=folder, env=environment, stdin=subprocess.DEVNULL,
                                stdout=stdout, stderr=subprocess.PIPE, timeout=120, restore_signals=False,
                                preexec_fn=limit_files(run.longest_file) if run.longest_file else None)
