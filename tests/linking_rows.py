@@ -1,9 +1,9 @@
 """Rows of `link`: where the parts of the linked file stand, and what code and capabilities become in it."""
 from objects import (NEEDED, RELOCATIONS, RELOCATIONS_SIZE, RELOCATION_SIZE, SONAME, INIT, INIT_SIZE, CAPABILITY, WEAK,
                      HIDDEN, OBJECT, FUNCTION, initial_calls, ENTRIES, ENTRIES_SIZE, HASH, STRINGS, STRINGS_SIZE,
-                     SYMBOLS, SYMBOL_SIZE, BRANCH, COMMON, JAL, LOAD, READ, READ_CODE, READ_WRITE, RELRO, Made,
-                     Relocation, Symbol, data, function, label, program_header, relocatable, shared, text, thing, u32,
-                     u64, zeros)
+                     SYMBOLS, SYMBOL_SIZE, ALLOCATED, BRANCH, COMMON, COPY, FINI, FINI_ARRAY, FINI_SIZE, JAL, LOAD,
+                     NOTE, READ, READ_CODE, READ_WRITE, RELRO, WRITABLE, Made, Relocation, Section, Symbol, data,
+                     function, label, program_header, relocatable, shared, text, thing, u32, u64, zeros)
 from row import Holds, Row, Run
 from users_case import NO_SYMBOL, NOP, asked, exported, linked
 
@@ -31,6 +31,11 @@ cap 0x0000000040002000 base 0x0000000040002000 top 0x00000000040002010 cursor 0x
 objects 1 words 1
 """
 
+# The note is in memory, and has a relocation that no section of a program may have.
+with_note = relocatable(
+    [Section(".note.made", u32(5, 4, 1) + b"made\0\0\0\0" + u32(7), ALLOCATED, 4, NOTE), data(bytes(16))],
+    [thing("q", ".data", 0, 16)], {".note.made": [Relocation(20, "q", kind=COPY)], ".data": [Relocation(0, "q", 16)]})
+
 common = linked(
     0x1FE, (0x1000, 0x1000), (0x1000, 0x2000), (0x2000, 0x2000, 0x2010),
     {HASH: 0x1D8, STRINGS: 0x1F0, SYMBOLS: 0x190, STRINGS_SIZE: 14, SYMBOL_SIZE: 24},
@@ -53,6 +58,27 @@ CALLS_FIRST_REPORT = """\
 object 0x0000000040000000 0x0000000000003000 libi.so
 cap 0x00000000400020c0 base 0x0000000040000000 top 0x00000000040003000 cursor 0x0000000040001000 perms 0017 flag 1 sentry owner 0 symbol go
 objects 1 words 1
+"""
+
+# The final calls stand first in the object, and the first of two initial calls is none.
+calls_both = relocatable(
+    [text(NOP * 2), Section(".fini_array", bytes(16), ALLOCATED | WRITABLE, 16, FINI_ARRAY), initial_calls(bytes(32))],
+    [function("go", ".text", 0, 4), function("end", ".text", 4, 4)],
+    {".fini_array": [Relocation(0, "end")], ".init_array": [Relocation(16, "go")]})
+calls_both_linked = linked(
+    0x230, (0x1000, 0x1008), (0x2000, 0x3000), (0x3000, 0x3000, 0x3000),
+    {SONAME: 8, HASH: 0x208, STRINGS: 0x220, SYMBOLS: 0x190, STRINGS_SIZE: 16, SYMBOL_SIZE: 24, RELOCATIONS: 0x1D8,
+     RELOCATIONS_SIZE: 48, RELOCATION_SIZE: 24, INIT: 0x20E0, INIT_SIZE: 32, FINI: 0x2100, FINI_SIZE: 16},
+    {0x190: NO_SYMBOL + exported(1, 0x1000, 4, FUNCTION) + exported(4, 0x1004, 4, FUNCTION),
+     0x1D8: u64(0x2100, 2 << 32 | CAPABILITY, 0) + u64(0x20F0, 1 << 32 | CAPABILITY, 0),
+     0x208: u32(1, 3, 2, 0, 0, 1),
+     0x220: b"\0go\0end\0libi.so\0",
+     0x1000: NOP * 2})
+CALLS_BOTH_REPORT = """\
+object 0x0000000040000000 0x0000000000003000 libi.so
+cap 0x00000000400020f0 base 0x0000000040000000 top 0x00000000040003000 cursor 0x0000000040001000 perms 0017 flag 1 sentry owner 0 symbol go
+cap 0x0000000040002100 base 0x0000000040000000 top 0x00000000040003000 cursor 0x0000000040001004 perms 0017 flag 1 sentry owner 0 symbol end
+objects 1 words 2
 """
 
 weakly = relocatable([data(bytes(16))], [thing("d", ".data", 0, 16), Symbol("w", binding=WEAK)],
@@ -110,6 +136,8 @@ ROWS = [
         Run("link -o q q.o", created={"q": own_end_linked}),
         Run("load -o i q", created={"i": Holds({16 + 19 + 0x2000: u64(0x40002010, 0x007D00000405A004)})}),
         Run("show i", out=OWN_END_REPORT)]),
+    Row("a note isn't linked, and its relocations are passed over", {"q.o": with_note}, [
+        Run("link -o q q.o", created={"q": own_end_linked})]),
     Row("common symbols of one name have the largest size and alignment of all",
         {"a.o": relocatable([], [thing("count", COMMON, 4, 4)]),
          "b.o": relocatable([zeros(4)], [thing("count", COMMON, 8, 8), thing("before", ".bss", 0, 4)])}, [
@@ -118,6 +146,11 @@ ROWS = [
         Run("link -o libi.so --shared libi.so i.o", created={"libi.so": calls_first_linked}),
         Run("load -o i libi.so", created={"i": Holds()}),
         Run("show i", out=CALLS_FIRST_REPORT)]),
+    Row("final calls stand behind the initial ones, wherever they stand in the object", {"i.o": calls_both}, [
+        Run("link -o libi.so --shared libi.so i.o", created={"libi.so": calls_both_linked}),
+        Run("load -o i libi.so", created={"i": Holds()}),
+        Run("show i", out=CALLS_BOTH_REPORT),
+        Run("init libi.so", out="call 0x00000000400020f0 0x0000000040001000 libi.so\ncalls 1\n")]),
     Row("a library without a name of its own is needed by its file's name, and once",
         {"m.o": weakly, "lib/x.so": shared(), "other/x.so": shared()}, [
             Run("link -o app m.o lib/x.so other/x.so", created={"app": weakly_linked})]),

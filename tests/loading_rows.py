@@ -71,6 +71,13 @@ def weak_and_strong_report(base: int, owner: int) -> str:
             + bounds(0x40002000, base, 16, owner, "f") + "objects 3 words 1\n")
 
 
+def bound_in(tags: list[tuple[int, int]], base: int, owner: int) -> tuple[dict[str, bytes], str, str]:
+    """A program and its library both define `f`, and the library, which has these tags, asks for it."""
+    f = thing("f", 1, 0x3000, 16)
+    files = {"m": shared([f], needed=["x.so"]), "x.so": shared([f], [Relocation(0x2000, "f")], more_tags=tags)}
+    return files, "m", of_four_pages("m", "x.so") + bounds(0x40006000, base, 16, owner, "f") + "objects 2 words 1\n"
+
+
 shared_by_two = {"p": shared(needed=["x.so", "y.so"]), "x.so": shared(needed=["z.so"]), "y.so": shared(needed=["z.so"]),
                  "z.so": shared()}
 in_a_circle = {"p": shared(needed=["x.so"]), "x.so": shared(needed=["y.so"]), "y.so": shared(needed=["x.so"])}
@@ -174,6 +181,11 @@ ROWS = [
         Run("show i", out=weak_and_strong_report(0x40008000, 2)),
         Run("load -o i --first-found app", created={"i": Holds()}),
         Run("show i", out=weak_and_strong_report(0x40005000, 1))]),
+    shown("a library's name is looked up in the program first", *bound_in([], 0x40003000, 0)),
+    shown("a library with DT_SYMBOLIC looks its names up in itself first", *bound_in([(16, 0)], 0x40007000, 1)),
+    shown("so does a library with DF_SYMBOLIC in its flags", *bound_in([(30, 2)], 0x40007000, 1)),
+    shown("so does one with DF_SYMBOLIC in any of its flags", *bound_in([(30, 8), (30, 10), (30, 1)], 0x40007000, 1)),
+    shown("a library with other flags doesn't", *bound_in([(30, 9)], 0x40003000, 0)),
     shown("objects are loaded in breadth, and one that two need once", shared_by_two, "p",
           of_four_pages("p", "x.so", "y.so", "z.so") + "objects 4 words 0\n"),
     shown("objects that need each other are loaded once", in_a_circle, "p",

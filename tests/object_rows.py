@@ -2,9 +2,9 @@
 with a few other bytes; a line names the offset of what is wrong."""
 import struct
 
-from objects import (ALIGN, ALLOCATED, BRANCH, CAPABILITY, COMMON, FUNCTION, INIT_ARRAY, JAL, LOCAL, NOTYPE, OBJECT,
-                     PCREL_HIGH, PCREL_LOW, SECTION, SYMTAB, WORD_64, Made, Relocation, Section, Sparse, Symbol, data,
-                     function, initial_calls, label, relocatable, shared, text, thing, u16, u32, u64, up, zeros)
+from objects import (ALIGN, ALLOCATED, BRANCH, CAPABILITY, COMMON, FINI_ARRAY, FUNCTION, INIT_ARRAY, JAL, LOCAL, NOTYPE,
+                     OBJECT, PCREL_HIGH, PCREL_LOW, SECTION, SYMTAB, WORD_64, Made, Relocation, Section, Sparse, Symbol,
+                     data, function, initial_calls, label, relocatable, shared, text, thing, u16, u32, u64, up, zeros)
 from header_cases import HEADER_CASES, M, U
 from row import Holds, Row, Run
 from users_case import NOP
@@ -72,6 +72,8 @@ CASES: list[tuple[str, dict[int, bytes], str, str, int]] = [
     ("calls before the initial ones", {header(".init_array", "type"): u32(16)}, U, "section type",
      HEADER[".init_array"]),
     ("symbols that are loaded", {header(".data", "type"): u32(11)}, U, "section type", HEADER[".data"]),
+    ("a dynamic table that is loaded", {header(".data", "type"): u32(6)}, U, "section type", HEADER[".data"]),
+    ("short relocations that are loaded", {header(".data", "type"): u32(19)}, U, "section type", HEADER[".data"]),
     ("the type stands before the name", {header(".data", "type"): u32(9), header(".data", "name"): u32(0x1000)}, U,
      "section type", HEADER[".data"]),
     ("a section's name outside the names", {header(".data", "name"): u32(0x1000)}, M, "section names", HEADER[".data"]),
@@ -80,6 +82,9 @@ CASES: list[tuple[str, dict[int, bytes], str, str, int]] = [
     ("writable code", {header(".text", "flags"): u64(7)}, U, "section flags", HEADER[".text"]),
     ("zeros that can't be written", {header(".bss", "flags"): u64(2)}, U, "section flags", HEADER[".bss"]),
     ("initial calls that can't be written", {header(".init_array", "flags"): u64(2)}, U, "section flags",
+     HEADER[".init_array"]),
+    ("final calls that can't be written",
+     {header(".init_array", "type"): u32(FINI_ARRAY), header(".init_array", "flags"): u64(2)}, U, "section flags",
      HEADER[".init_array"]),
     ("a section that passes the file's end", {header(".debug", "offset"): u64(len(good))}, M, "section range",
      HEADER[".debug"]),

@@ -9,12 +9,13 @@ from pathlib import Path
 
 sys.path[:0] = [str(Path(__file__).resolve().parent.parent / folder) for folder in ("tools", "examples")]
 from elf import (ABSOLUTE, ALIGN, ALLOCATED, BRANCH, CALL, CAPABILITY, COMMON, COPY, DYNAMIC, ENTRIES, ENTRIES_SIZE,
-                 EXECUTABLE, FUNCTION, GLOBAL, HASH, HIDDEN, INIT, INIT_ARRAY, INIT_SIZE, JAL, JUMP_SLOT, LOAD, LOCAL,
-                 NEEDED, NOBITS, NONE, NOTYPE, OBJECT, PCREL_HIGH, PCREL_LOW, PROGBITS, PURE_CAPABILITY, RELA, RELATIVE,
-                 RELOCATIONS, RELOCATIONS_SIZE, RELOCATION_SIZE, RELRO, RISC_V, SECTION, SONAME, STRINGS, STRINGS_SIZE,
-                 STRTAB, SYMBOLS, SYMBOL_SIZE, SYMTAB, TABLE_HIGH, UNDEFINED, WEAK, WORD_64, WRITABLE, Made, Relocation,
-                 Section, Strings, Symbol, data, file_header, function, hash_words, initial_calls, label, program_header,
-                 relocatable, relocation_bytes, symbol_bytes, text, thing, u16, u32, u64, up, zeros)  # noqa: E402, F401
+                 EXECUTABLE, FINI, FINI_ARRAY, FINI_SIZE, FUNCTION, GLOBAL, HASH, HIDDEN, INIT, INIT_ARRAY, INIT_SIZE,
+                 JAL, JUMP_SLOT, LOAD, LOCAL, NEEDED, NOBITS, NONE, NOTE, NOTYPE, OBJECT, PCREL_HIGH, PCREL_LOW,
+                 PROGBITS, PURE_CAPABILITY, RELA, RELATIVE, RELOCATIONS, RELOCATIONS_SIZE, RELOCATION_SIZE, RELRO,
+                 RISC_V, SECTION, SONAME, STRINGS, STRINGS_SIZE, STRTAB, SYMBOLS, SYMBOL_SIZE, SYMTAB, TABLE_HIGH,
+                 UNDEFINED, WEAK, WORD_64, WRITABLE, Made, Relocation, Section, Strings, Symbol, data, file_header,
+                 function, hash_words, initial_calls, label, program_header, relocatable, relocation_bytes,
+                 symbol_bytes, text, thing, u16, u32, u64, up, zeros)  # noqa: E402, F401
 
 READ, READ_CODE, READ_WRITE = 4, 5, 6
 

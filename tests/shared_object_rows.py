@@ -1,13 +1,14 @@
 """Shared objects that `load` refuses: a case for each check, in the order of the checks. Each is one good object with a
 few other bytes; a line names the offset of what is wrong."""
-from objects import (INIT, INIT_SIZE, COMMON, COPY, DYNAMIC, ENTRIES, ENTRIES_SIZE, HASH, JUMP_SLOT, NEEDED, READ,
-                     RELOCATIONS, RELOCATIONS_SIZE, RELOCATION_SIZE, RELRO, SONAME, STRINGS, STRINGS_SIZE, SYMBOLS,
-                     SYMBOL_SIZE, WEAK, Made, Relocation, Sparse, Symbol, function, program_header, shared, thing, u16,
-                     u32, u64)
+from objects import (FINI, FINI_SIZE, INIT, INIT_SIZE, COMMON, COPY, DYNAMIC, ENTRIES, ENTRIES_SIZE, HASH, JUMP_SLOT,
+                     NEEDED, READ, RELOCATIONS, RELOCATIONS_SIZE, RELOCATION_SIZE, RELRO, SONAME, STRINGS, STRINGS_SIZE,
+                     SYMBOLS, SYMBOL_SIZE, WEAK, Made, Relocation, Sparse, Symbol, function, program_header, shared,
+                     thing, u16, u32, u64)
 from header_cases import HEADER_CASES, M, U
 from row import Holds, Row, Run
 
 PASSED_OVER = 21
+SYMBOLIC = 16
 JUMPS, JUMPS_SIZE, JUMPS_KIND = 23, 2, 20
 TABLES = {"symbols": 0x300, "hash": 0x400, "names": 0x500, "relocations": 0x600, "entries": 0x700, "dynamic": 0x800}
 JUMPS_AT = 0x680
@@ -86,6 +87,8 @@ CASES: list[tuple[str, dict[int, bytes], str, str, int]] = [
        tag(INIT_SIZE))
       for number in (HASH, STRINGS, SYMBOLS, RELOCATIONS, RELOCATIONS_SIZE, RELOCATION_SIZE, STRINGS_SIZE, SYMBOL_SIZE,
                      SONAME, JUMPS, JUMPS_SIZE, JUMPS_KIND, INIT, ENTRIES, ENTRIES_SIZE)),
+    *((f"two entries with the tag {number:#x}", {tag(INIT): u64(number), tag(INIT_SIZE): u64(number)}, M,
+       "repeated dynamic tag", tag(INIT_SIZE)) for number in (SYMBOLIC, FINI, INIT_SIZE, FINI_SIZE)),
     ("no strings", without(STRINGS), M, "string table", DYNAMIC_AT),
     ("no size of the strings", without(STRINGS_SIZE), M, "string table", DYNAMIC_AT),
     ("strings that pass their segment", {value(STRINGS): u64(0xFFF)}, M, "string table", DYNAMIC_AT),
