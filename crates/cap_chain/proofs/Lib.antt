@@ -1,4 +1,4 @@
-pub mod ChainLemmas
+pub mod CountLemmas
 pub mod FirstLemmas
 pub mod LastLemmas
 pub mod MarkLemmas

@@ -1,13 +1,14 @@
 -- Worked tables, by computation.
 use Rattle.std.specs.Prelude.{◌≡◌, ℕ, List, [], ◌∷◌, true, false, codes, refl, Some}
 use Rattle.std.proofs.Common.{subst, sym}
-use Rattle.cap_chain.specs.Hash.{hash_of}
+use Rattle.cap_names.specs.Hash.{system_v_hash_of}
 use Rattle.cap_chain.specs.Words.{built_words}
 use Rattle.std.specs.List.{IsDistinct}
-use Rattle.cap_chain.specs.Adopted.{AreDistinct, Named, ChainTable, is_sound, walk_of, first_defined}
+use Rattle.cap_chain.specs.Adopted.{ChainTable, is_sound, walk_of}
+use Rattle.cap_names.specs.Named.{AreDistinct, Named, first_defined}
 
 abbrev helper_hash : ℕ
-helper_hash = hash_of (codes "helper")
+helper_hash = system_v_hash_of (codes "helper")
 
 helper-hash : helper_hash ≡ 0x06EC36C2
 helper-hash = refl

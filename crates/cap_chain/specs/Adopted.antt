@@ -1,14 +1,11 @@
 -- Which words are a sound hash table of these names (System V gABI, DT_HASH), and what is found by it.
-use Rattle.std.specs.Prelude.{◌≡◌, ℕ, zero, suc, ◌+◌, ◌%◌, ◌≤◌, ◌==◌, nat_lt, Bool, true, false, not, ◌&&◌, ◌||◌, if◌then◌else◌, List, [], ◌∷◌, length, drop, slice_range, slice_index, slice_index_or, flat_map, ◌<◌, ◌^◌, Result, Ok, Err, position, Option, Some, bytes_eq}
-use Rattle.std.specs.List.{list_all, list_any, enumerate_from, IsDistinct}
+use Rattle.std.specs.Prelude.{◌≡◌, ℕ, zero, suc, ◌+◌, ◌%◌, ◌≤◌, ◌==◌, nat_lt, Bool, true, false, not, ◌&&◌, ◌||◌, if◌then◌else◌, List, [], ◌∷◌, length, drop, slice_range, slice_index, flat_map, ◌<◌, ◌^◌, Result, Ok, Err, position, Option}
+use Rattle.std.specs.List.{list_all, list_any, enumerate_from}
 use Rattle.std.specs.Option.{option_map_or}
-use Rattle.cap_chain.specs.Hash.{hash_of}
+use Rattle.cap_names.specs.Hash.{system_v_hash_of}
+use Rattle.cap_names.specs.Named.{Named, AreDistinct, first_defined}
 use Rattle.cap_chain.specs.declared.adopting.AdoptRefusal.{AdoptRefusal}
 use Rattle.cap_chain.specs.declared.adopting.AdoptRefusal.TheVariants.{Fault, NoMemory}
-
--- a name and whether it is defined
-abbrev pub Named : Type 0
-Named = List ℕ × Bool
 
 -- the words of a table, and the names of its indices, each with whether it counts as defined
 pub record ChainTable : Type 0 where
@@ -33,7 +30,7 @@ chain_at words i = chain_from (name_words_of words) (length (name_words_of words
 
 -- the chain of the bucket into which a name falls
 abbrev pub chain_of : List ℕ → List ℕ → List ℕ
-chain_of words name = chain_at words (slice_index (bucket_words_of words) (hash_of name % slice_index words 0))
+chain_of words name = chain_at words (slice_index (bucket_words_of words) (system_v_hash_of name % slice_index words 0))
 
 -- the indices on the chains of all buckets, one chain after another
 abbrev pub reached : List ℕ → List ℕ
@@ -63,19 +60,6 @@ pub record IsTableOf (words : List ℕ) (names : List Named) : Type 0 where
   pub chains : slice_index words 1 ≡ length names
   pub long : length words ≡ 2 + slice_index words 0 + length names
 
--- no two defined names are equal
-abbrev pub AreDistinct : List Named → Type 0
-AreDistinct names = IsDistinct (λ a b. a.1 && b.1 && bytes_eq a.0 b.0) names
-
--- the least index that is defined and has this name
-abbrev pub first_defined : List Named → List ℕ → Option ℕ
-first_defined names name = position (λ p. p.1 && bytes_eq p.0 name) names
-
--- the index is defined and has this name
-abbrev pub matches : List Named → List ℕ → ℕ → Bool
-matches names name i =
-    let p = slice_index_or names i ([], false) in p.1 && bytes_eq p.0 name
-
 -- how many indices of a chain are passed up to the one that is found, that one too; all of them where none is found
 abbrev pub passed : List ℕ → Option ℕ → ℕ
 passed chain found = option_map_or (λ i. option_map_or (λ k. k + 1) (position (λ j. j == i) chain) (length chain)) found (length chain)
@@ -83,11 +67,6 @@ passed chain found = option_map_or (λ i. option_map_or (λ k. k + 1) (position 
 -- how many indices the look-up of a name passes
 abbrev pub walk_of : ChainTable → List ℕ → ℕ
 walk_of table name = passed (chain_of table.words name) (first_defined table.names name)
-
--- how many items are passed up to the first that passes the test, or all
-abbrev pub count_to : (ℕ → Bool) → List ℕ → ℕ
-count_to q [] = 0
-count_to q (x ∷ xs) = 1 + (if q x then 0 else count_to q xs)
 
 abbrev pub table_of : List ℕ → List Named → ChainTable
 table_of words names = record { words = words; names = names }
@@ -104,7 +83,3 @@ abbrev pub Adopts : List ℕ → List Named → Result ChainTable AdoptRefusal �
 Adopts words names (Ok chains) = (chains ≡ table_of words names) × (is_sound words names ≡ true)
 Adopts words names (Err Fault) = is_sound words names ≡ false
 Adopts words names (Err NoMemory) = Unit {0}
-
--- no other index than the one that is found is defined and has this name
-abbrev pub IsOnly : List Named → List ℕ → Option ℕ → Type 0
-IsOnly names name found = (k : ℕ) → matches names name k ≡ true → found ≡ Some k

@@ -1,7 +1,8 @@
 -- What is built can be adopted.
 use Rattle.std.specs.Prelude.{◌≡◌, ◌≤◌, true, false, List, [], length, map, slice_index_or}
 use Rattle.cap_chain.specs.Words.{built_words}
-use Rattle.cap_chain.specs.Adopted.{Named, IsTableOf, is_sound}
+use Rattle.cap_chain.specs.Adopted.{IsTableOf, is_sound}
+use Rattle.cap_names.specs.Named.{Named}
 
 -- where the first name isn't defined, the words that are built for names are a sound table of them
 pub record BuiltAreSound : Type 0 where

@@ -1,5 +1,5 @@
-pub mod Hash
 pub mod Words
 pub mod Adopted
 pub mod Marking
+pub mod Counted
 pub mod Laws

@@ -3,7 +3,7 @@
 -- the same bucket; 0 leads nowhere.
 use Rattle.std.specs.Prelude.{ℕ, zero, suc, ◌/◌, ◌%◌, ◌==◌, Bool, not, ◌&&◌, if◌then◌else◌, max, List, [], ◌∷◌, ◌++◌, map, length, slice_index}
 use Rattle.std.specs.List.{range_with_len}
-use Rattle.cap_chain.specs.Hash.{hash_of}
+use Rattle.cap_names.specs.Hash.{system_v_hash_of}
 
 -- as many buckets as half the names, and at least one
 abbrev pub bucket_count : ℕ → ℕ
@@ -38,4 +38,4 @@ words_of hashes =
 
 -- the words that are built for names
 abbrev pub built_words : List (List ℕ) → List ℕ
-built_words names = words_of (map hash_of names)
+built_words names = words_of (map system_v_hash_of names)

@@ -1,14 +1,17 @@
 //! Tables that are read from files: whether they are sound, seen in one pass over all chains.
 
-ghost use Rattle.std.specs.Prelude.{◌≡◌, ◌+◌, ◌<◌, ◌≤◌, ◌^◌, Some, None, if◌then◌else◌, length, replicate, drop, nat_lt, true};
+ghost use Rattle.std.specs.Prelude.{◌≡◌, ◌+◌, ◌<◌, ◌≤◌, ◌^◌, Some, None, if◌then◌else◌, length, replicate, drop, nat_lt, true, IfOk};
 ghost use Rattle.std.specs.List.{list_all};
-ghost use Rattle.cap_chain.specs.Adopted.{AreDistinct, IsTableOf, Adopts, is_sound, chain_from};
+ghost use Rattle.cap_chain.specs.Adopted.{IsTableOf, Adopts, is_sound, chain_from};
+ghost use Rattle.cap_chain.specs.Counted.{CountsChains};
+ghost use Rattle.cap_names.specs.Named.{AreDistinct};
 ghost use Rattle.cap_chain.specs.Marking.{marking, marking_all, is_marked, are_sound, Tells};
 
 use crate::chains::Chains;
-use crate::hashing::hash;
-use cap_base::NameList;
-use std::alloc::{AllocError, AllocFailed, Global};
+use crate::counting::ChainCounts;
+use cap_base::{NameList, NoMemory};
+use cap_names::system_v_hash;
+use std::alloc::Global;
 
 /// Why words are not adopted.
 #[derive(Clone, Copy, Debug, PartialEq, Eq)]
@@ -19,22 +22,12 @@ pub enum AdoptRefusal {
     NoMemory,
 }
 
-impl From<AllocError> for AdoptRefusal {
+impl From<NoMemory> for AdoptRefusal {
     ghost use Rattle.cap_chain.specs.declared.adopting.AdoptRefusal.TheVariants.{NoMemory};
 
     ghost from_gives = { λ _ e. e ≡ NoMemory };
 
-    fn from(_e: AllocError) -> AdoptRefusal {
-        AdoptRefusal::NoMemory
-    }
-}
-
-impl<T: Drop> From<AllocFailed<T>> for AdoptRefusal {
-    ghost use Rattle.cap_chain.specs.declared.adopting.AdoptRefusal.TheVariants.{NoMemory};
-
-    ghost from_gives = { λ _ e. e ≡ NoMemory };
-
-    fn from(_e: AllocFailed<T>) -> AdoptRefusal {
+    fn from(_: NoMemory) -> AdoptRefusal {
         AdoptRefusal::NoMemory
     }
 }
@@ -92,7 +85,7 @@ fn has_mark(names: &NameList, buckets: usize, marks: &[u32], i: usize) -> bool
     requires long { length marks.now ≡ length names.now }
     ensures { result ≡ is_marked names.now buckets marks.now i }
 {
-    !names.defined(i) || marks[i] as usize == hash(names.name(i)) as usize % buckets + 1
+    !names.defined(i) || marks[i] as usize == system_v_hash(names.name(i)) as usize % buckets + 1
 }
 
 /// Whether each defined index has the mark of its bucket.
@@ -139,24 +132,53 @@ fn is_table_sound(words: &[u32], names: &NameList, marks: &mut [u32]) -> bool
     are_lists_sound(firsts, links, names, marks)
 }
 
-/// The table of these words and names, in which names that count as defined are distinct. The words are as many as the
-/// first two tell, as DT_HASH has them.
+/// Whether the words are those of a sound table.
+fn is_adoptable(alloc: Global, words: &[u32], names: &NameList) -> Result<bool, NoMemory>
+    requires { IsTableOf words.now names.now }
+    ensures { IfOk result (λ sound. sound ≡ is_sound words.now names.now) }
+{
+    let count = words[1] as usize;
+    if !are_inside(&words[2..], count) {
+        return Ok(false);
+    }
+    let mut marks = vec![in alloc; 0u32; count]?;
+    Ok(is_table_sound(words, names, &mut marks))
+}
+
+/// A copy of the words.
+fn copy(alloc: Global, words: &[u32]) -> Result<Vec<u32>, NoMemory>
+    ensures { IfOk result (λ copy. copy.items ≡ words.now) }
+{
+    Ok(Vec::from_slice(alloc, words)?)
+}
+
+/// What is counted of the chains of these words, which lead to names. The words are as many as the first two tell, as
+/// DT_HASH has them.
 ///
 /// Fault comes exactly where a word after the first two isn't the index of a name, or an index other than 0 is reached
 /// twice from the buckets, or a defined name isn't on the chain of its bucket.
+pub fn count_chains(
+    alloc: Global,
+    words: &[u32],
+    names: &NameList,
+) -> Result<ChainCounts, AdoptRefusal>
+    requires { IsTableOf words.now names.now }
+    ensures { CountsChains words.now names.now result }
+{
+    if !is_adoptable(alloc, words, names)? {
+        return Err(AdoptRefusal::Fault);
+    }
+    Ok(ChainCounts::of(alloc, words, names)?)
+}
+
+/// The table of these words and names, in which names that count as defined are distinct. Fault comes exactly where it
+/// comes of `count_chains`.
 pub fn adopt(alloc: Global, words: &[u32], names: NameList) -> Result<Chains, AdoptRefusal>
     requires table { IsTableOf words.now names }
     requires distinct { AreDistinct names }
     ensures { Adopts words.now names result }
 {
-    let count = words[1] as usize;
-    if !are_inside(&words[2..], count) {
-        return Err(AdoptRefusal::Fault);
-    }
-    let mut marks = vec![in alloc; 0u32; count]?;
-    if !is_table_sound(words, &names, &mut marks) {
-        return Err(AdoptRefusal::Fault);
-    }
-    let words = Vec::from_slice(alloc, words)?;
-    Ok(Chains { words, names })
+    let counts = count_chains(alloc, words, &names)?;
+    let words = copy(alloc, words)?;
+    Ok(Chains::counted(alloc, words, counts, names)?)
 }

@@ -1,13 +1,14 @@
 //! New tables.
 
 ghost use Rattle.std.specs.Prelude.{◌≡◌, [], ◌+◌, ◌≤◌, ◌^◌, ◌++◌, length, map, replicate, false, slice_index_or, IfOk};
-ghost use Rattle.cap_chain.specs.Adopted.{AreDistinct, table_of};
-ghost use Rattle.cap_chain.specs.Hash.{hash_of};
+ghost use Rattle.cap_chain.specs.Adopted.{table_of};
+ghost use Rattle.cap_names.specs.Named.{AreDistinct};
+ghost use Rattle.cap_names.specs.Hash.{system_v_hash_of};
 ghost use Rattle.cap_chain.specs.Words.{built_words, bucket_words, name_words, words_of};
 
 use crate::chains::Chains;
-use crate::hashing::hash;
 use cap_base::{NameList, NoMemory};
+use cap_names::system_v_hash;
 use std::alloc::Global;
 
 /// Puts each name but the first in front of the chain of its bucket.
@@ -60,11 +61,11 @@ pub fn words_of_hashes(alloc: Global, hashes: &[u32]) -> Result<Vec<u32>, NoMemo
 
 /// The hashes of the names.
 fn hashes_of(alloc: Global, names: &NameList) -> Result<Vec<u32>, NoMemory>
-    ensures { IfOk result (λ hashes. hashes.items ≡ map hash_of (map (λ p. p.0) names.now)) }
+    ensures { IfOk result (λ hashes. hashes.items ≡ map system_v_hash_of (map (λ p. p.0) names.now)) }
 {
     let mut hashes = Vec::with_capacity(alloc, names.len())?;
     for i in 0..names.len() {
-        hashes.push(hash(names.name(i)))?;
+        hashes.push(system_v_hash(names.name(i)))?;
     }
     Ok(hashes)
 }
@@ -80,5 +81,5 @@ pub fn build(alloc: Global, names: NameList) -> Result<Chains, NoMemory>
 {
     let hashes = hashes_of(alloc, &names)?;
     let words = words_of_hashes(alloc, &hashes)?;
-    Ok(Chains { words, names })
+    Chains::of_sound(alloc, words, names)
 }

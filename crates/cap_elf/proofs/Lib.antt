@@ -1,5 +1,7 @@
 pub mod FirstByte
 pub mod ByName
+pub mod Flags
+pub mod Settled
 pub mod Walk
 pub mod RelWalk
 pub mod Passing

@@ -7,7 +7,7 @@ use Rattle.cap_base.specs.declared.check.Check.TheVariants.{NeededName, NameLeng
 use Rattle.cap_base.specs.Text.{is_plain}
 use Rattle.cap_base.specs.Steps.{fault}
 use Rattle.cap_elf.specs.declared.decode.DynEntry.{DynEntry}
-use Rattle.cap_elf.specs.declared.tags.TheConstants.{NEEDED, SONAME}
+use Rattle.cap_elf.specs.Numbers.{DT_NEEDED, DT_SONAME}
 use Rattle.cap_elf.specs.Names.{name_of, has_slash, is_file_name}
 use Rattle.cap_elf.specs.FileNames.{NamesView, file_name_of, name_step, names_of}
 use Rattle.cap_elf.specs.IsRead.{IsFileName}
@@ -40,14 +40,14 @@ pub record AreFileNames (names : NamesView) : Type 0 where
 name_keeps : (strings : List ℕ) (names : NamesView) (e : DynEntry) (next : NamesView) → AreFileNames names → name_step strings names e ≡ Ok next → AreFileNames next
 unfolding name_step
 name_keeps strings names e next are passed =
-    choice_passed (e.tag == NEEDED) _ _ (Ok next) passed
+    choice_passed (e.tag == DT_NEEDED) _ _ (Ok next) passed
     (λ _ needed.
     let one = bind_passed (file_name_of strings e) _ next needed in
     subst AreFileNames (same_value _ next one.2) (record {
       needed = All-push IsFileName names.needed one.0 are.needed (file_name_passed strings e one.0 one.1);
       soname = are.soname;
     }))
-    (λ _ other. choice_passed (e.tag == SONAME) _ _ (Ok next) other
+    (λ _ other. choice_passed (e.tag == DT_SONAME) _ _ (Ok next) other
     (λ _ soname.
     let one = bind_passed (file_name_of strings e) _ next soname in
     subst AreFileNames (same_value _ next one.2) (record { needed = are.needed; soname = file_name_passed strings e one.0 one.1 }))

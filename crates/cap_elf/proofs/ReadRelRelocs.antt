@@ -12,7 +12,7 @@ use Rattle.cap_elf.specs.declared.decode.Table.{Table}
 use Rattle.cap_elf.specs.declared.records.Reloc.{Reloc}
 use Rattle.cap_elf.specs.declared.records.Section.{Section}
 use Rattle.cap_elf.specs.declared.rel_relocs.Target.{Target}
-use Rattle.cap_elf.specs.declared.section_types.TheConstants.{SYMTAB, RELA}
+use Rattle.cap_elf.specs.Numbers.{SHT_SYMTAB, SHT_RELA}
 use Rattle.cap_elf.specs.declared.sections.SectionHeader.{SectionHeader}
 use Rattle.cap_elf.specs.Classes.{is_kept}
 use Rattle.cap_elf.specs.Records.{table}
@@ -43,11 +43,11 @@ target_keeps : (file_len : ℕ) (headers : List SectionHeader) (sections : List 
 unfolding target_step
 target_keeps file_len headers sections targets h next are passed =
     let old = slice_index_or targets h.info no_target in
-    choice_passed (not (h.kind == RELA)) _ _ (Ok next) passed
+    choice_passed (not (h.kind == SHT_RELA)) _ _ (Ok next) passed
     (λ _ same. subst (All (IsTarget sections)) (same_value targets next same) are)
     (λ _ other.
     let place = bind_passed (records_in file_len h RelocationSection) _ next other in
-    let link = check_passed (not ((header_at headers h.link).kind == SYMTAB)) RelocationSection h.at _ next place.2 in
+    let link = check_passed (not ((header_at headers h.link).kind == SHT_SYMTAB)) RelocationSection h.at _ next place.2 in
     let some = check_passed ((h.info == 0) || nat_le (length targets) h.info) RelocationSection h.at _ next link.1 in
     let first = check_passed (is_some old.relocs) RelocationSection h.at _ next some.1 in
     let inside = leb-false (length targets) h.info (or_parts (h.info == 0) (nat_le (length targets) h.info) some.0).1 in

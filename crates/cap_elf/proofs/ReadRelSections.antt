@@ -9,7 +9,7 @@ use Rattle.cap_base.specs.Steps.{fault}
 use Rattle.cap_elf.specs.declared.records.Class.{Class}
 use Rattle.cap_elf.specs.declared.records.Class.TheVariants.{Ro, Code, Init, Fini, Relro, Data, Bss, Dropped}
 use Rattle.cap_elf.specs.declared.records.Section.{Section}
-use Rattle.cap_elf.specs.declared.section_types.TheConstants.{NOTE, NOBITS, INIT_ARRAY, FINI_ARRAY, WRITE, ALLOC, EXECINSTR}
+use Rattle.cap_elf.specs.Numbers.{SHT_NOTE, SHT_NOBITS, SHT_INIT_ARRAY, SHT_FINI_ARRAY, SHF_WRITE, SHF_ALLOC, SHF_EXECINSTR}
 use Rattle.cap_elf.specs.declared.sections.SectionHeader.{SectionHeader}
 use Rattle.cap_elf.specs.Classes.{is_kept, is_bss}
 use Rattle.cap_elf.specs.Names.{rest_of}
@@ -33,33 +33,33 @@ second_false true b h x = absurd (cc)
 
 -- sections of zeros are in memory, and have no bytes in the file; other kept ones have
 record TellsClass (h : SectionHeader) (class : Class) : Type 0 where
-  pub zeros : is_bss class ≡ true → (has_flag h ALLOC ≡ true) × ((h.kind == NOBITS) ≡ true)
-  pub content : (is_kept class && not (is_bss class)) ≡ true → (h.kind == NOBITS) ≡ false
+  pub zeros : is_bss class ≡ true → (has_flag h SHF_ALLOC ≡ true) × ((h.kind == SHT_NOBITS) ≡ true)
+  pub content : (is_kept class && not (is_bss class)) ≡ true → (h.kind == SHT_NOBITS) ≡ false
 
 dropped : (h : SectionHeader) → TellsClass h Dropped
 dropped h = record { zeros = λ e. absurd (cc); content = λ e. absurd (cc) }
 
-not_zeros : (h : SectionHeader) (class : Class) → is_bss class ≡ false → (h.kind == NOBITS) ≡ false → TellsClass h class
+not_zeros : (h : SectionHeader) (class : Class) → is_bss class ≡ false → (h.kind == SHT_NOBITS) ≡ false → TellsClass h class
 not_zeros h class other some = record { zeros = λ e. absurd (both_ways (is_bss class) other e); content = λ _. some }
 
 class_tells : (name : List ℕ) (h : SectionHeader) → TellsClass h (class_of name h)
 unfolding class_of
 class_tells name h =
     let last = cond (is_relro_name name) Relro Data in
-    let ro = cond (not (has_flag h WRITE)) Ro last in
-    let fini = cond (h.kind == FINI_ARRAY) Fini ro in
-    let init = cond (h.kind == INIT_ARRAY) Init fini in
-    let some = cond (has_flag h EXECINSTR) Code init in
-    let no_zeros : (h.kind == NOBITS) ≡ false → is_bss some ≡ false = λ _.
-    cond_both (has_flag h EXECINSTR) Code init (λ c. is_bss c ≡ false) (λ _. refl) (λ _.
-    cond_both (h.kind == INIT_ARRAY) Init fini (λ c. is_bss c ≡ false) (λ _. refl) (λ _.
-    cond_both (h.kind == FINI_ARRAY) Fini ro (λ c. is_bss c ≡ false) (λ _. refl) (λ _.
-    cond_both (not (has_flag h WRITE)) Ro last (λ c. is_bss c ≡ false) (λ _. refl) (λ _.
+    let ro = cond (not (has_flag h SHF_WRITE)) Ro last in
+    let fini = cond (h.kind == SHT_FINI_ARRAY) Fini ro in
+    let init = cond (h.kind == SHT_INIT_ARRAY) Init fini in
+    let some = cond (has_flag h SHF_EXECINSTR) Code init in
+    let no_zeros : (h.kind == SHT_NOBITS) ≡ false → is_bss some ≡ false = λ _.
+    cond_both (has_flag h SHF_EXECINSTR) Code init (λ c. is_bss c ≡ false) (λ _. refl) (λ _.
+    cond_both (h.kind == SHT_INIT_ARRAY) Init fini (λ c. is_bss c ≡ false) (λ _. refl) (λ _.
+    cond_both (h.kind == SHT_FINI_ARRAY) Fini ro (λ c. is_bss c ≡ false) (λ _. refl) (λ _.
+    cond_both (not (has_flag h SHF_WRITE)) Ro last (λ c. is_bss c ≡ false) (λ _. refl) (λ _.
     cond_both (is_relro_name name) Relro Data (λ c. is_bss c ≡ false) (λ _. refl) (λ _. refl))))) in
-    cond_both (not (has_flag h ALLOC) || (h.kind == NOTE)) Dropped (cond (h.kind == NOBITS) Bss some) (TellsClass h)
+    cond_both (not (has_flag h SHF_ALLOC) || (h.kind == SHT_NOTE)) Dropped (cond (h.kind == SHT_NOBITS) Bss some) (TellsClass h)
     (λ _. dropped h)
-    (λ kept. cond_both (h.kind == NOBITS) Bss some (TellsClass h)
-    (λ zeros. record { zeros = λ _. (in_memory (has_flag h ALLOC) (h.kind == NOTE) kept, zeros); content = λ e. absurd (cc) })
+    (λ kept. cond_both (h.kind == SHT_NOBITS) Bss some (TellsClass h)
+    (λ zeros. record { zeros = λ _. (in_memory (has_flag h SHF_ALLOC) (h.kind == SHT_NOTE) kept, zeros); content = λ e. absurd (cc) })
     (λ other. not_zeros h some (no_zeros other) other))
 
 -- a section's alignment is a power of two, and its size is bounded by the file or a limit
@@ -79,16 +79,16 @@ section_passed file_len names h s passed =
     let name = bind_passed (ok_or (rest_of names h.name) (fault SectionNames h.at)) _ s type.1 in
     let flags = check_passed (flags_fail name.0 h) SectionFlags h.at _ s name.2 in
     let outside = nat_lt file_len (h.offset + h.size) in
-    let range = check_passed (not (h.kind == NOBITS) && outside) SectionRange h.at _ s flags.1 in
+    let range = check_passed (not (h.kind == SHT_NOBITS) && outside) SectionRange h.at _ s flags.1 in
     let power = check_passed (not (is_power_of_two (max h.align 1))) SectionAlignment h.at _ s range.1 in
     let high = check_passed (nat_lt 65536 h.align) SectionAlignmentLimit 0 _ s power.1 in
-    let zeros = check_passed (has_flag h ALLOC && (h.kind == NOBITS) && nat_lt (2 ^ 26) h.size) SectionSize 0 _ s high.1 in
+    let zeros = check_passed (has_flag h SHF_ALLOC && (h.kind == SHT_NOBITS) && nat_lt (2 ^ 26) h.size) SectionSize 0 _ s high.1 in
     let tells = class_tells name.0 h in
     subst (IsReadSection file_len) (same_value _ s zeros.1) (record {
       align_power = not-false (is_power_of_two (max h.align 1)) power.0;
       align_high = above_one h.align (ltb-false 65536 h.align high.0);
-      zeros_high = λ bss. let is = tells.zeros bss in ltb-false (2 ^ 26) h.size (third_false (has_flag h ALLOC) (h.kind == NOBITS) (nat_lt (2 ^ 26) h.size) zeros.0 is.0 is.1);
-      in_file = λ some. ltb-false file_len (h.offset + h.size) (second_false (h.kind == NOBITS) outside range.0 (tells.content some));
+      zeros_high = λ bss. let is = tells.zeros bss in ltb-false (2 ^ 26) h.size (third_false (has_flag h SHF_ALLOC) (h.kind == SHT_NOBITS) (nat_lt (2 ^ 26) h.size) zeros.0 is.0 is.1);
+      in_file = λ some. ltb-false file_len (h.offset + h.size) (second_false (h.kind == SHT_NOBITS) outside range.0 (tells.content some));
     })
 
 section_keeps : (file_len : ℕ) (names : List ℕ) (sections : List Section) (h : SectionHeader) (next : List Section) → All (IsReadSection file_len) sections → section_step file_len names sections h ≡ Ok next → All (IsReadSection file_len) next

@@ -8,7 +8,7 @@ use Rattle.cap_base.specs.declared.check.Check.TheVariants.{DynamicHeader, Relro
 use Rattle.cap_elf.specs.declared.records.Segment.{Segment}
 use Rattle.cap_elf.specs.declared.decode.ProgramHeader.{ProgramHeader}
 use Rattle.cap_elf.specs.declared.program.Marks.{Marks}
-use Rattle.cap_elf.specs.declared.program.TheConstants.{DYNAMIC, RELRO}
+use Rattle.cap_elf.specs.Numbers.{PT_DYNAMIC, PT_GNU_RELRO}
 use Rattle.cap_elf.specs.Ends.{end_of, writes, is_writable_at, writable_range, file_place}
 use Rattle.cap_elf.specs.Marks.{mark_step, marks_of}
 use Rattle.cap_elf.specs.IsRead.{IsRelro}
@@ -49,12 +49,12 @@ HasRelro loads m = IfSome m.relro (IsRelro loads)
 mark_keeps : (loads : List Segment) (marks : Marks) (h : ProgramHeader) (next : Marks) → HasRelro loads marks → mark_step loads marks h ≡ Ok next → HasRelro loads next
 unfolding mark_step
 mark_keeps loads marks h next has passed =
-    choice_passed (h.kind == DYNAMIC) _ _ (Ok next) passed
+    choice_passed (h.kind == PT_DYNAMIC) _ _ (Ok next) passed
     (λ _ dynamic.
     let place = file_place loads h.segment.vaddr h.segment.filesz in
     let one = check_passed (is_some marks.dynamic || not ((h.segment.filesz % 16) == 0) || is_none place) DynamicHeader h.at _ next dynamic in
     subst (HasRelro loads) (same_value _ next one.1) has)
-    (λ _ other. choice_passed (h.kind == RELRO) _ _ (Ok next) other
+    (λ _ other. choice_passed (h.kind == PT_GNU_RELRO) _ _ (Ok next) other
     (λ _ relro.
     let range = writable_range loads h.segment.vaddr h.segment.memsz in
     let one = check_passed (is_some marks.relro || is_none range) RelroHeader h.at _ next relro in

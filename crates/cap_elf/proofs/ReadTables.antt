@@ -15,7 +15,7 @@ use Rattle.cap_elf.specs.declared.decode.DynEntry.{DynEntry}
 use Rattle.cap_elf.specs.declared.decode.Table.{Table}
 use Rattle.cap_elf.specs.declared.tables.HashPlace.{HashPlace}
 use Rattle.cap_elf.specs.declared.tables.Lists.{Lists}
-use Rattle.cap_elf.specs.declared.tags.TheConstants.{HASH, SYMTAB, SYMENT, RELA, RELASZ, RELAENT, JMPREL, PLTRELSZ, PLTREL, CAP_RELOCS, CAP_RELOCSZ, INIT_ARRAY, INIT_ARRAYSZ, FINI_ARRAY, FINI_ARRAYSZ}
+use Rattle.cap_elf.specs.Numbers.{DT_HASH, DT_SYMTAB, DT_SYMENT, DT_RELA, DT_RELASZ, DT_RELAENT, DT_JMPREL, DT_PLTRELSZ, DT_PLTREL, DT_CAP_RELOCS, DT_CAP_RELOCSZ, DT_INIT_ARRAY, DT_INIT_ARRAYSZ, DT_FINI_ARRAY, DT_FINI_ARRAYSZ}
 use Rattle.cap_elf.specs.Ends.{end_of, holds, spans, file_place, table_place, is_in_memory}
 use Rattle.cap_elf.specs.Records.{table}
 use Rattle.cap_elf.specs.Dynamic.{value_of}
@@ -90,7 +90,7 @@ hash_at_same bytes head place same buckets chains =
 pub hash_passed : (bytes : List ℕ) (loads : List Segment) (used : List DynEntry) (at : ℕ) (h : HashPlace) → AreLoads (length bytes) loads → hash_of bytes loads used at ≡ Ok h → IsHash bytes h
 unfolding hash_of
 hash_passed bytes loads used at h are passed =
-    let address = bind_passed (ok_or (value_of used HASH) (fault checks.NoHashTable at)) _ h passed in
+    let address = bind_passed (ok_or (value_of used DT_HASH) (fault checks.NoHashTable at)) _ h passed in
     let head = bind_passed (ok_or (file_place loads address.0 8) (fault checks.HashTable at)) _ h address.2 in
     let buckets = number_at 4 bytes head.0 in
     let chains = number_at 4 bytes (head.0 + 4) in
@@ -131,8 +131,8 @@ pub symbols_counted : (loads : List Segment) (used : List DynEntry) (count at : 
 unfolding symbols_of
 symbols_counted loads used count at t passed =
     let few = check_passed (nat_lt (2 ^ 20) count) checks.SymbolCount 0 _ t passed in
-    let place = bind_passed (ok_or (table_place loads (value_of used SYMTAB) (24 * count)) (fault checks.SymbolTable at)) _ t few.1 in
-    let width = check_passed (not (unwrap_or (value_of used SYMENT) 0 == 24)) checks.SymbolTable at _ t place.2 in
+    let place = bind_passed (ok_or (table_place loads (value_of used DT_SYMTAB) (24 * count)) (fault checks.SymbolTable at)) _ t few.1 in
+    let width = check_passed (not (unwrap_or (value_of used DT_SYMENT) 0 == 24)) checks.SymbolTable at _ t place.2 in
     subst (IsCounted count) (same_value _ t width.1) (record { same = refl; few = ltb-false (2 ^ 20) count few.0 })
 
 abbrev pub AreFew : Lists → Type 0
@@ -141,9 +141,9 @@ AreFew l = l.relocs.count + l.jumps.count + l.cap_relocs.count ≤ 2 ^ 20
 pub lists_counted : (loads : List Segment) (used : List DynEntry) (at : ℕ) (l : Lists) → lists_of loads used at ≡ Ok l → AreFew l
 unfolding lists_of
 lists_counted loads used at l passed =
-    let relocs = bind_passed (list_of loads (value_of used RELA) (value_of used RELASZ) (is_value (value_of used RELAENT) 24) 24 at) _ l passed in
-    let jumps = bind_passed (list_of loads (value_of used JMPREL) (value_of used PLTRELSZ) (is_value (value_of used PLTREL) 7) 24 at) _ l relocs.2 in
-    let caps = bind_passed (list_of loads (value_of used CAP_RELOCS) (value_of used CAP_RELOCSZ) true 40 at) _ l jumps.2 in
+    let relocs = bind_passed (list_of loads (value_of used DT_RELA) (value_of used DT_RELASZ) (is_value (value_of used DT_RELAENT) 24) 24 at) _ l passed in
+    let jumps = bind_passed (list_of loads (value_of used DT_JMPREL) (value_of used DT_PLTRELSZ) (is_value (value_of used DT_PLTREL) 7) 24 at) _ l relocs.2 in
+    let caps = bind_passed (list_of loads (value_of used DT_CAP_RELOCS) (value_of used DT_CAP_RELOCSZ) true 40 at) _ l jumps.2 in
     let few = check_passed (nat_lt (2 ^ 20) (relocs.0.count + jumps.0.count + caps.0.count)) checks.RelocationCount 0 _ l caps.2 in
     subst AreFew (same_value _ l few.1) (ltb-false (2 ^ 20) (relocs.0.count + jumps.0.count + caps.0.count) few.0)
 
@@ -188,9 +188,9 @@ pub record AreArrays (span : ℕ) (a : Arrays) : Type 0 where
 pub arrays_passed : (loads : List Segment) (used : List DynEntry) (at span : ℕ) (arrays : Arrays) → All (λ s. end_of s ≤ span) loads → arrays_of loads used at ≡ Ok arrays → AreArrays span arrays
 unfolding arrays_of
 arrays_passed loads used at span arrays within passed =
-    let init = bind_passed (array_of loads (value_of used INIT_ARRAY) (value_of used INIT_ARRAYSZ) at) _ arrays passed in
-    let fini = bind_passed (array_of loads (value_of used FINI_ARRAY) (value_of used FINI_ARRAYSZ) at) _ arrays init.2 in
+    let init = bind_passed (array_of loads (value_of used DT_INIT_ARRAY) (value_of used DT_INIT_ARRAYSZ) at) _ arrays passed in
+    let fini = bind_passed (array_of loads (value_of used DT_FINI_ARRAY) (value_of used DT_FINI_ARRAYSZ) at) _ arrays init.2 in
     subst (AreArrays span) (same_value _ arrays fini.2) (record {
-      init = array_passed loads span (value_of used INIT_ARRAY) (value_of used INIT_ARRAYSZ) at init.0 within init.1;
-      fini = array_passed loads span (value_of used FINI_ARRAY) (value_of used FINI_ARRAYSZ) at fini.0 within fini.1;
+      init = array_passed loads span (value_of used DT_INIT_ARRAY) (value_of used DT_INIT_ARRAYSZ) at init.0 within init.1;
+      fini = array_passed loads span (value_of used DT_FINI_ARRAY) (value_of used DT_FINI_ARRAYSZ) at fini.0 within fini.1;
     })

@@ -5,7 +5,7 @@ use Rattle.cap_base.specs.declared.refusal.Fault.{Fault}
 use Rattle.cap_elf.specs.declared.records.Segment.{Segment}
 use Rattle.cap_elf.specs.declared.decode.DynEntry.{DynEntry}
 use Rattle.cap_elf.specs.declared.records.Arrays.{Arrays}
-use Rattle.cap_elf.specs.declared.tags.TheConstants.{INIT_ARRAY, INIT_ARRAYSZ, FINI_ARRAY, FINI_ARRAYSZ}
+use Rattle.cap_elf.specs.Numbers.{DT_INIT_ARRAY, DT_INIT_ARRAYSZ, DT_FINI_ARRAY, DT_FINI_ARRAYSZ}
 use Rattle.cap_elf.specs.Ends.{is_in_memory}
 use Rattle.cap_elf.specs.Dynamic.{value_of}
 use Rattle.cap_base.specs.Steps.{◌>>=◌, ◌>>◌, refuse, fault}
@@ -21,6 +21,6 @@ array_of loads (Some address) size table_at = do
 -- DT_INIT_ARRAY, and then DT_FINI_ARRAY
 unfoldable pub arrays_of : List Segment → List DynEntry → ℕ → Result Arrays Fault
 arrays_of loads used table_at = do
-  init ← array_of loads (value_of used INIT_ARRAY) (value_of used INIT_ARRAYSZ) table_at
-  fini ← array_of loads (value_of used FINI_ARRAY) (value_of used FINI_ARRAYSZ) table_at
+  init ← array_of loads (value_of used DT_INIT_ARRAY) (value_of used DT_INIT_ARRAYSZ) table_at
+  fini ← array_of loads (value_of used DT_FINI_ARRAY) (value_of used DT_FINI_ARRAYSZ) table_at
   Ok (record { init_at = init.0; init_size = init.1; fini_at = fini.0; fini_size = fini.1 })

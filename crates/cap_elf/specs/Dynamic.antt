@@ -6,7 +6,7 @@ use Rattle.cap_base.specs.declared.check.Check.TheVariants.{DynamicEnd, DynamicT
 use Rattle.cap_base.specs.declared.refusal.Fault.{Fault}
 use Rattle.cap_elf.specs.declared.decode.DynEntry.{DynEntry}
 use Rattle.cap_elf.specs.declared.decode.Table.{Table}
-use Rattle.cap_elf.specs.declared.tags.TheConstants.{FLAGS, SYMBOLIC}
+use Rattle.cap_elf.specs.Numbers.{DT_FLAGS, DT_SYMBOLIC, DF_SYMBOLIC}
 use Rattle.cap_elf.specs.Records.{table, dyn_entry_at}
 use Rattle.cap_base.specs.Steps.{◌>>=◌, ◌>>◌, refuse, steps}
 use Rattle.cap_elf.specs.Tags.{is_single, is_refused}
@@ -36,8 +36,8 @@ used_of listed = steps tag_step [] listed
 
 -- DF_SYMBOLIC of a DT_FLAGS
 abbrev pub has_symbolic_flag : List DynEntry → Bool
-has_symbolic_flag listed = list_any (λ e. e.tag == FLAGS && (bit_and e.value 2 == 2)) listed
+has_symbolic_flag listed = list_any (λ e. e.tag == DT_FLAGS && (bit_and e.value DF_SYMBOLIC == DF_SYMBOLIC)) listed
 
 -- the object looks a name up in itself first
 abbrev pub is_symbolic : List DynEntry → List DynEntry → Bool
-is_symbolic listed used = is_some (value_of used SYMBOLIC) || has_symbolic_flag listed
+is_symbolic listed used = is_some (value_of used DT_SYMBOLIC) || has_symbolic_flag listed

@@ -3,7 +3,7 @@ use Rattle.std.specs.Prelude.{ℕ, not, ◌==◌, nat_lt, List, [], ◌∷◌, �
 use Rattle.cap_base.specs.declared.check.Check.TheVariants.{NeededName, NameLength}
 use Rattle.cap_base.specs.declared.refusal.Fault.{Fault}
 use Rattle.cap_elf.specs.declared.decode.DynEntry.{DynEntry}
-use Rattle.cap_elf.specs.declared.tags.TheConstants.{NEEDED, SONAME}
+use Rattle.cap_elf.specs.Numbers.{DT_NEEDED, DT_SONAME}
 use Rattle.cap_elf.specs.declared.names.FileNames.{FileNames}
 use Rattle.cap_elf.specs.Names.{name_of, is_file_name}
 use Rattle.cap_base.specs.Steps.{◌>>=◌, ◌>>◌, refuse, fault, steps}
@@ -28,10 +28,10 @@ file_name_of strings e = do
 -- the names so far, and those of one more entry
 unfoldable pub name_step : List ℕ → NamesView → DynEntry → Result NamesView Fault
 name_step strings names e =
-    if e.tag == NEEDED then (do
+    if e.tag == DT_NEEDED then (do
       name ← file_name_of strings e
       Ok (record names { needed = names.needed ++ name ∷ [] }))
-    else if e.tag == SONAME then (do
+    else if e.tag == DT_SONAME then (do
       name ← file_name_of strings e
       Ok (record names { soname = Some name }))
     else Ok names

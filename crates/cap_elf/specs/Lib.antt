@@ -1,3 +1,4 @@
+pub mod Numbers
 pub mod Header
 pub mod Records
 pub mod Ends
@@ -7,11 +8,12 @@ pub mod Tags
 pub mod Dynamic
 pub mod Tables
 pub mod Names
-pub mod NameSet
 pub mod Named
 pub mod NamePlaces
 pub mod Exported
+pub mod Flagged
 pub mod Symbols
+pub mod Listed
 pub mod Relocs
 pub mod FileNames
 pub mod Arrays

@@ -1,4 +1,5 @@
 -- The records that were read, as contracts see them.
+use Rattle.std.specs.Prelude.{map}
 use Rattle.cap_elf.specs.declared.reading.Records.{Records}
 use Rattle.cap_elf.specs.DynView.{DynRecords}
 
@@ -8,8 +9,8 @@ records_view r = record {
   flags = r.flags;
   segments = r.segments.items;
   relro = r.relro;
-  symbols = r.symbols.items;
-  names = r.names;
+  symbols = map (λ n. n.symbol) r.symbols;
+  names = map (λ n. n.name) r.symbols;
   relocs = r.relocs.items;
   cap_relocs = r.cap_relocs.items;
   hash_words = r.hash_words.items;

@@ -11,7 +11,7 @@ use Rattle.cap_elf.specs.declared.decode.Table.{Table}
 use Rattle.cap_elf.specs.declared.records.Reloc.{Reloc}
 use Rattle.cap_elf.specs.declared.records.Section.{Section}
 use Rattle.cap_elf.specs.declared.rel_relocs.Target.{Target}
-use Rattle.cap_elf.specs.declared.section_types.TheConstants.{SYMTAB, RELA}
+use Rattle.cap_elf.specs.Numbers.{SHT_SYMTAB, SHT_RELA}
 use Rattle.cap_elf.specs.declared.sections.SectionHeader.{SectionHeader}
 use Rattle.cap_elf.specs.Classes.{is_kept}
 use Rattle.cap_elf.specs.Records.{table}
@@ -31,9 +31,9 @@ no_target = record { section = 0; is_kept = false; relocs = None }
 -- the sections with their relocations so far, and with those of one more section: its sh_link is the symbol table, and
 -- its sh_info the section that they change, which has no others
 unfoldable pub target_step : ℕ → List SectionHeader → List Target → SectionHeader → Result (List Target) Fault
-target_step file_len headers targets h = if not (h.kind == RELA) then Ok targets else do
+target_step file_len headers targets h = if not (h.kind == SHT_RELA) then Ok targets else do
   place ← records_in file_len h RelocationSection
-  refuse (not ((header_at headers h.link).kind == SYMTAB)) RelocationSection h.at
+  refuse (not ((header_at headers h.link).kind == SHT_SYMTAB)) RelocationSection h.at
   refuse (h.info == 0 || nat_le (length targets) h.info) RelocationSection h.at
   let target = slice_index_or targets h.info no_target
   refuse (is_some target.relocs) RelocationSection h.at

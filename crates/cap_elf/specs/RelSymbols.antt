@@ -12,7 +12,7 @@ use Rattle.cap_elf.specs.declared.records.Place.TheVariants.{Undefined, Absolute
 use Rattle.cap_elf.specs.declared.records.Section.{Section}
 use Rattle.cap_elf.specs.declared.records.Symbol.{Symbol}
 use Rattle.cap_elf.specs.declared.rel_symbols.Symtab.{Symtab}
-use Rattle.cap_elf.specs.declared.section_types.TheConstants.{SYMTAB}
+use Rattle.cap_elf.specs.Numbers.{SHT_SYMTAB}
 use Rattle.cap_elf.specs.declared.sections.SectionHeader.{SectionHeader}
 use Rattle.cap_elf.specs.Named.{NamedSymbol}
 use Rattle.cap_elf.specs.NamePlaces.{strings_at}
@@ -45,7 +45,7 @@ no_symtab = record { is_there = false; place = record { at = 0; count = 1 }; str
 -- the symbol table so far, and that of one more section: "an object file may have only one section of each type". Its
 -- sh_link is the section of the strings
 unfoldable pub symtab_step : List ℕ → List SectionHeader → SymtabView → SectionHeader → Result SymtabView Fault
-symtab_step bytes headers found h = if not (h.kind == SYMTAB) then Ok found else do
+symtab_step bytes headers found h = if not (h.kind == SHT_SYMTAB) then Ok found else do
   refuse found.is_there SymbolTable h.at
   place ← records_in (length bytes) h SymbolTable
   strings ← strings_in bytes (header_at headers h.link) SymbolTable h.at

@@ -8,7 +8,7 @@ use Rattle.cap_base.specs.declared.refusal.Fault.{Fault}
 use Rattle.cap_base.specs.Steps.{◌>>=◌, ◌>>◌, refuse, fault, steps}
 use Rattle.cap_elf.specs.declared.decode.Table.{Table}
 use Rattle.cap_elf.specs.declared.records.Section.{Section}
-use Rattle.cap_elf.specs.declared.section_types.TheConstants.{STRTAB, NOBITS, ALLOC}
+use Rattle.cap_elf.specs.Numbers.{SHT_STRTAB, SHT_NOBITS, SHF_ALLOC}
 use Rattle.cap_elf.specs.declared.sections.SectionHeader.{SectionHeader}
 use Rattle.cap_elf.specs.Names.{rest_of}
 use Rattle.cap_elf.specs.SectionTypes.{has_flag, type_fails, flags_fail, class_of}
@@ -48,7 +48,7 @@ header_at headers i = slice_index_or headers i no_header
 -- the bytes of a string table, the first and the last of which are 0 (gABI, "String Table")
 unfoldable pub strings_in : List ℕ → SectionHeader → Check → ℕ → Result (List ℕ) Fault
 strings_in bytes h check at = do
-  refuse (not (h.kind == STRTAB) || nat_lt (length bytes) (h.offset + h.size)) check at
+  refuse (not (h.kind == SHT_STRTAB) || nat_lt (length bytes) (h.offset + h.size)) check at
   let strings = slice_range bytes h.offset (h.offset + h.size)
   refuse (h.size == 0 || not (slice_index strings 0 == 0) || not (slice_index strings (h.size - 1) == 0)) check at
   Ok strings
@@ -72,10 +72,10 @@ section_of file_len names h = do
   refuse (type_fails h) SectionType h.at
   name ← ok_or (rest_of names h.name) (fault SectionNames h.at)
   refuse (flags_fail name h) SectionFlags h.at
-  refuse (not (h.kind == NOBITS) && nat_lt file_len (h.offset + h.size)) SectionRange h.at
+  refuse (not (h.kind == SHT_NOBITS) && nat_lt file_len (h.offset + h.size)) SectionRange h.at
   refuse (not (is_power_of_two (max h.align 1))) SectionAlignment h.at
   refuse (nat_lt 65536 h.align) SectionAlignmentLimit 0
-  refuse (has_flag h ALLOC && h.kind == NOBITS && nat_lt (2 ^ 26) h.size) SectionSize 0
+  refuse (has_flag h SHF_ALLOC && h.kind == SHT_NOBITS && nat_lt (2 ^ 26) h.size) SectionSize 0
   Ok (record { class = class_of name h; size = h.size; align = max h.align 1; offset = h.offset; at = h.at })
 
 -- the sections so far, and one more

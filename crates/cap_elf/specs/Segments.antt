@@ -7,6 +7,7 @@ use Rattle.cap_base.specs.declared.refusal.Fault.{Fault}
 use Rattle.cap_elf.specs.declared.records.Segment.{Segment}
 use Rattle.cap_elf.specs.declared.decode.ProgramHeader.{ProgramHeader}
 use Rattle.cap_elf.specs.declared.decode.Table.{Table}
+use Rattle.cap_elf.specs.Numbers.{PT_LOAD, PT_TLS}
 use Rattle.cap_elf.specs.Ends.{highest_end}
 use Rattle.cap_base.specs.Steps.{◌>>=◌, ◌>>◌, refuse, steps}
 
@@ -35,8 +36,8 @@ is_writable_code s = bit_and s.flags 3 == 3
 -- the segment that a program header maps, where it maps one. `end` is the highest end of the earlier ones
 unfoldable pub load_of : ℕ → ℕ → ProgramHeader → Result (Option Segment) Fault
 load_of file_len end h = do
-  refuse (h.kind == 7) ThreadLocal h.at
-  if not (h.kind == 1) then Ok None else do
+  refuse (h.kind == PT_TLS) ThreadLocal h.at
+  if not (h.kind == PT_LOAD) then Ok None else do
     refuse (range_fails file_len h.segment) SegmentRange h.at
     refuse (alignment_fails h.segment) SegmentAlignment h.at
     refuse (nat_lt h.segment.vaddr end) SegmentOrder h.at

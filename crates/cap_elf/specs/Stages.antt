@@ -1,5 +1,5 @@
 -- The stages of reading a shared object, each from what the ones before gave.
-use Rattle.std.specs.Prelude.{ℕ, ◌≤◌, ◌<◌, ◌+◌, ◌*◌, not, List, length, Option, ok_or, Result, Ok}
+use Rattle.std.specs.Prelude.{ℕ, ◌≤◌, ◌<◌, ◌+◌, ◌*◌, ◌^◌, not, List, length, Option, ok_or, Result, Ok}
 use Rattle.std.specs.List.{list_any}
 use Rattle.cap_base.specs.declared.check.Check.TheVariants.{NoSegment, DynamicHeader}
 use Rattle.cap_base.specs.declared.refusal.Fault.{Fault}
@@ -71,6 +71,7 @@ pub record AreInside (file_len : ℕ) (t : Tables) : Type 0 where
   pub hash : t.hash.words.at + 4 * t.hash.words.count ≤ file_len
   pub symbols : t.symbols.at + 24 * t.symbols.count ≤ file_len
   pub some_symbol : 0 < t.symbols.count
+  pub few_symbols : t.symbols.count ≤ 2 ^ 20
   pub relocs : t.lists.relocs.at + 24 * t.lists.relocs.count ≤ file_len
   pub jumps : t.lists.jumps.at + 24 * t.lists.jumps.count ≤ file_len
   pub cap_relocs : t.lists.cap_relocs.at + 40 * t.lists.cap_relocs.count ≤ file_len

@@ -68,7 +68,9 @@ pub fn read_dyn(alloc: Global, number: u32, bytes: &[u8]) -> Result<DynFile, Ref
 
 impl DynFile {
     ghost use Rattle.std.specs.Prelude.{◌<◌, [], ℕ, List, All, length, slice_index_or, option_copied};
+    ghost use Rattle.cap_names.specs.Hash.{system_v_hash_of};
     ghost use Rattle.cap_elf.specs.Ends.{IsInFile};
+    ghost use Rattle.cap_elf.specs.Exported.{first_exported, IsOnlyExported};
 
     /// The number that the file was given when it was read.
     pub fn number(&self) -> u32
@@ -106,7 +108,7 @@ impl DynFile {
         ensures symbols { result.now ≡ self.now.records.symbols }
         ensures sound { IsRead self.now.records }
     {
-        self.records.symbols.as_slice()
+        self.records.symbols.symbols()
     }
 
     /// The name of the symbol of this index.
@@ -114,7 +116,18 @@ impl DynFile {
         requires { symbol < length self.now.records.symbols }
         ensures { result.now ≡ slice_index_or self.now.records.names symbol [] }
     {
-        self.records.names.get(symbol as usize)
+        self.records.symbols.name(symbol as usize)
+    }
+
+    /// The least index whose symbol is exported (defined, and not local) and has this name, whose hash for DT_HASH is
+    /// given; None exactly where there is none. No other exported symbol has the name. It takes no memory.
+    #[tactic(auto, using(crate::proofs::Flags::exported_by))]
+    pub fn find_exported(&self, name: &[u8], hash: u32) -> Option<u32>
+        requires { hash ≡ system_v_hash_of name.now }
+        ensures first { result ≡ first_exported self.now.records.symbols self.now.records.names name.now }
+        ensures only { IsOnlyExported self.now.records.symbols self.now.records.names name.now result }
+    {
+        self.records.symbols.find(name, hash)
     }
 
     /// The relocations of DT_RELA, and then those of DT_JMPREL.

@@ -22,6 +22,7 @@ mod decode;
 mod dyn_file;
 mod dynamic;
 mod header;
+mod indexed;
 mod laws;
 mod named;
 mod names;

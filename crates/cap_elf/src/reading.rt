@@ -7,13 +7,14 @@ ghost use Rattle.cap_elf.specs.RecordsView.{records_view};
 
 use crate::arrays::read_arrays;
 use crate::dynamic::is_symbolic;
+use crate::indexed::IndexedSymbols;
 use crate::names::read_names;
-use crate::records::{Arrays, CapReloc, DynReloc, Segment, Symbol};
+use crate::records::{Arrays, CapReloc, DynReloc, Segment};
 use crate::relocs::{read_cap_relocs, read_relocs, read_words, symbols_fit};
 use crate::segments::Loads;
 use crate::stages::{read_mapped, read_tables};
 use crate::symbols::read_symbols;
-use cap_base::{Name, Names, Stop};
+use cap_base::{Name, Stop};
 use std::alloc::Global;
 
 /// What the bytes of a shared object tell.
@@ -22,8 +23,7 @@ pub(crate) struct Records {
     pub(crate) flags: u32,
     pub(crate) segments: Vec<Segment>,
     pub(crate) relro: Option<(u64, u64)>,
-    pub(crate) symbols: Vec<Symbol>,
-    pub(crate) names: Names,
+    pub(crate) symbols: IndexedSymbols,
     pub(crate) relocs: Vec<DynReloc>,
     pub(crate) cap_relocs: Vec<CapReloc>,
     pub(crate) hash_words: Vec<u32>,
@@ -60,8 +60,7 @@ pub(crate) fn read_records(alloc: Global, bytes: &[u8]) -> Result<Records, Stop>
     let tables = read_tables(alloc, bytes, &mapped)?;
     let file_names = read_names(alloc, tables.strings, &tables.listed)?;
     let arrays = read_arrays(&mapped.loads, &tables.used, mapped.dynamic.at as u64)?;
-    let named = read_symbols(alloc, bytes, tables.strings, tables.symbols)?;
-    let (symbols, names) = named.apart();
+    let symbols = read_symbols(alloc, bytes, tables.strings, tables.symbols)?;
     let relocs = read_relocs(alloc, bytes, &tables.lists)?;
     symbols_fit(tables.symbols.count, &relocs)?;
     let cap_relocs = read_cap_relocs(alloc, bytes, tables.lists.cap_relocs)?;
@@ -74,7 +73,6 @@ pub(crate) fn read_records(alloc: Global, bytes: &[u8]) -> Result<Records, Stop>
         segments: mapped.loads.segments,
         relro: mapped.relro,
         symbols,
-        names,
         relocs,
         cap_relocs,
         hash_words,

@@ -5,6 +5,7 @@ mod good;
 
 use cap_base::Refusal;
 use cap_elf::{Arrays, CapReloc, DynFile, DynReloc, Place, Segment, Symbol, read_dyn};
+use cap_names::system_v_hash;
 use good::{GOOD, GOOD_LEN};
 use std::alloc::{AllocError, Global};
 use std::process::Abort;
@@ -17,7 +18,7 @@ pub(crate) type Write = (usize, &'static [u8]);
 pub(crate) type Case = (usize, &'static [Write], u8, u64);
 
 /// In the order of the checks.
-const FAULTS: [Case; 7] = [
+const FAULTS: [Case; 9] = [
     // 63 bytes
     (63, &[], 1, 0x3f),
     // file bytes outside the file
@@ -30,6 +31,20 @@ const FAULTS: [Case; 7] = [
     (GOOD_LEN, &[(0x1d8, b"\x12\x01\0\0")], 31, 0x1d8),
     // two definitions of one name
     (GOOD_LEN, &[(0x1f0, b"\x01\0\0\0")], 36, 0x1f0),
+    // two definitions of one name, and then a symbol's name outside the strings
+    (
+        GOOD_LEN,
+        &[(0x1f0, b"\x01\0\0\0"), (0x208, b"\x12\x01\0\0")],
+        36,
+        0x1f0,
+    ),
+    // a symbol's name outside the strings, and then a second definition of the name before it
+    (
+        GOOD_LEN,
+        &[(0x1f0, b"\x12\x01\0\0"), (0x208, b"\x01\0\0\0\x11\0\x01")],
+        31,
+        0x1f0,
+    ),
     // a relocation by no symbol
     (GOOD_LEN, &[(0x3cc, b"\x04\0\0\0")], 38, 0x3c0),
 ];
@@ -190,5 +205,33 @@ fn reads_names_and_words(rt: HostRuntime) -> Result<(), Fail> {
     assert_eq!(rt; file.needed_len(), 1);
     assert_eq!(rt; file.needed(0), b"n.so".as_slice());
     assert!(rt; file.soname() == Some(b"m.so".as_slice()));
+    Ok(())
+}
+
+fn find(file: &DynFile, name: &[u8]) -> Option<u32> {
+    file.find_exported(name, system_v_hash(name))
+}
+
+#[test]
+fn finds_exported_names(rt: HostRuntime) -> Result<(), Fail> {
+    let bytes = object(rt.alloc(), GOOD_LEN, &[])?;
+    let file = read_dyn(rt.alloc(), 5, &bytes)?;
+    assert_eq!(rt; find(&file, b"a"), Some(1));
+    assert_eq!(rt; find(&file, b"f"), Some(2));
+    // undefined
+    assert_eq!(rt; find(&file, b"u"), None);
+    // absent, and the name of the null symbol
+    assert_eq!(rt; find(&file, b"b"), None);
+    assert_eq!(rt; find(&file, b""), None);
+    Ok(())
+}
+
+#[test]
+fn counts_no_local_symbol(rt: HostRuntime) -> Result<(), Fail> {
+    // `f` is a local `a`
+    let bytes = object(rt.alloc(), GOOD_LEN, &[(0x1f0, b"\x01\0\0\0\x02")])?;
+    let file = read_dyn(rt.alloc(), 5, &bytes)?;
+    assert_eq!(rt; find(&file, b"a"), Some(1));
+    assert_eq!(rt; find(&file, b"f"), None);
     Ok(())
 }

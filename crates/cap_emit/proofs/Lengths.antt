@@ -4,7 +4,7 @@ use Rattle.std.specs.List.{flat_map}
 use Rattle.std.proofs.lemmas.List.{length-map}
 use Rattle.std.proofs.lemmas.List.FromFn.{length-map-range_with_len}
 use Rattle.std.proofs.lemmas.Slice.Zip.{length-zip}
-use Rattle.cap_chain.specs.Hash.{hash_of}
+use Rattle.cap_names.specs.Hash.{system_v_hash_of}
 use Rattle.cap_chain.specs.Words.{words_of, bucket_words, name_words, bucket_count, bucket_of, last_in}
 use Rattle.cap_elf.specs.declared.records.CapReloc.{CapReloc}
 use Rattle.cap_elf.specs.declared.records.DynReloc.{DynReloc}
@@ -76,5 +76,5 @@ length_built hashes n e =
 pub hash_size : (table : CapTableValue) (n : ℕ) → length table.symbols ≡ n → length (flat_map (field_bytes 4) (hash_words table)) ≤ 4 * hash_words_of n
 hash_size table n e =
     let names = map (λ s. s.name) table.symbols in
-    let words = length_built (map hash_of names) n (length-map names hash_of ∙ length-map table.symbols (λ s. s.name) ∙ e) in
+    let words = length_built (map system_v_hash_of names) n (length-map names system_v_hash_of ∙ length-map table.symbols (λ s. s.name) ∙ e) in
     omega (arith, length_records (field_bytes 4) 4 (hash_words table) length_word, words)

@@ -1,16 +1,17 @@
 //! The headers of the segments and the tables of a linked file, each appended to it.
 
 ghost use Rattle.std.specs.Prelude.{◌≡◌, ◌+◌, ◌*◌, ◌^◌, ◌<◌, ◌≤◌, ◌++◌, length, map, IfOk, OnOk};
-ghost use Rattle.cap_chain.specs.Hash.{hash_of};
+ghost use Rattle.cap_names.specs.Hash.{system_v_hash_of};
 ghost use Rattle.cap_chain.specs.Words.{built_words};
 ghost use Rattle.cap_emit.specs.Records.{segment_from, segment_headers};
 ghost use Rattle.cap_emit.specs.Written.{padded, symbol_table, rela_table, cap_reloc_table, hash_table, dynamic_table};
 
 use crate::records::{push_cap_reloc, push_entry, push_rela, push_segment, push_symbol, push_u32};
 use cap_base::NoMemory;
-use cap_chain::{hash, words_of_hashes};
+use cap_chain::words_of_hashes;
 use cap_elf::Segment;
 use cap_layout::Parts;
+use cap_names::system_v_hash;
 use cap_table::{CapTable, DynSymbol};
 use std::alloc::Global;
 
@@ -113,11 +114,11 @@ pub(crate) fn push_cap_relocs(file: &mut Vec<u8>, lists: &CapTable<'_>) -> Resul
 
 /// The hashes of the names of symbols.
 fn hashes_of(alloc: Global, symbols: &[DynSymbol<'_>]) -> Result<Vec<u32>, NoMemory>
-    ensures { IfOk result (λ hashes. hashes.items ≡ map hash_of (map (λ s. s.name) symbols.now)) }
+    ensures { IfOk result (λ hashes. hashes.items ≡ map system_v_hash_of (map (λ s. s.name) symbols.now)) }
 {
     let mut hashes = Vec::with_capacity(alloc, symbols.len())?;
     for symbol in symbols {
-        hashes.push(hash(symbol.name))?;
+        hashes.push(system_v_hash(symbol.name))?;
     }
     Ok(hashes)
 }

@@ -5,7 +5,7 @@ use Rattle.std.specs.Int.{is_power_of_two}
 use Rattle.std.specs.List.{range_with_len, AllByRecursion}
 use Rattle.std.specs.Option.{option_map, option_and_then}
 use Rattle.cap_base.specs.declared.kind.Kind.{Kind}
-use Rattle.cap_chain.specs.Hash.{hash_of}
+use Rattle.cap_names.specs.Hash.{system_v_hash_of}
 use Rattle.cap_chain.specs.Words.{bucket_count, bucket_of, last_below, last_in, bucket_words, name_words}
 use Rattle.cap_elf.specs.declared.records.Class.TheVariants.{Ro, Code, Init, Fini, Relro, Data}
 use Rattle.cap_elf.specs.declared.records.Place.{Place}
@@ -189,7 +189,7 @@ slots-planned needed soname l h = ap (λ (p : Planned). p.sizes.slots) h.is ∙ 
 more-words : (l : Linked) → AreListed l → length l.lists.symbols ≤ 2 ^ 20 → AllByRecursion IsWord32 (content_of l).more
 unfolding content_of
 more-words l h few =
-    let hashes = map hash_of (names_of_symbols l.lists.symbols) in
+    let hashes = map system_v_hash_of (names_of_symbols l.lists.symbols) in
     let n = length hashes in
     words-low hashes (bucket_count n) n (omega (arith, length-hashes l.lists.symbols, few))
 

@@ -4,7 +4,7 @@ use Rattle.std.specs.Prelude.{zip, option_to_list, nat_le, ◌&&◌, ◌==◌}
 use Rattle.std.specs.List.{list_all, list_any, enumerate_from, AllByRecursion}
 use Rattle.std.proofs.lemmas.List.Folds.{list_all-append}
 use Rattle.cap_chain.specs.Adopted.{is_sound}
-use Rattle.cap_chain.specs.Adopted.{Named as ChainNamed}
+use Rattle.cap_names.specs.Named.{Named as ChainNamed}
 use Rattle.cap_chain.specs.Laws.{BuiltAreSound}
 use Rattle.cap_chain.specs.Words.{built_words}
 use Rattle.cap_elf.specs.Names.{is_file_name}

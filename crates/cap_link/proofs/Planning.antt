@@ -3,7 +3,7 @@ use Rattle.std.proofs.lemmas.List.FromFn.{length-range_with_len}
 use Rattle.std.proofs.Common.{◌≡◌, length-append, ℕ, ◌+◌, ◌-◌, ◌*◌, ◌^◌, ◌≤◌, Bool, true, false, cond, List, [], ◌∷◌, length, map, refl, sym, ap, ◌∙◌, arith}
 use Rattle.std.specs.Int.{next_multiple_of, is_power_of_two}
 use Rattle.std.specs.List.{range_with_len}
-use Rattle.cap_chain.specs.Hash.{hash_of}
+use Rattle.cap_names.specs.Hash.{system_v_hash_of}
 use Rattle.cap_chain.specs.Words.{bucket_count, bucket_of, last_in, bucket_words, name_words}
 use Rattle.cap_conc.specs.Computed.{representable_length}
 use Rattle.cap_elf.specs.declared.records.Class.{Class}
@@ -111,7 +111,7 @@ hash-end l h s =
 word-count : (l : Linked) → AreListed l → length (content_of l).more ≡ (content_of l).buckets + symbol_count (content_of l)
 unfolding content_of
 word-count l h =
-    let hashes = map hash_of (names_of_symbols l.lists.symbols) in
+    let hashes = map system_v_hash_of (names_of_symbols l.lists.symbols) in
     let n = length hashes in
     let k : n ≡ 1 + length (planned_from 1 (named_symbols l)) = omega (arith, length-hashes l.lists.symbols, ap length h.symbols, planned-length 1 (named_symbols l)) in
     let a : length (bucket_words hashes (bucket_count n) n) ≡ bucket_count n = length-map (λ (b : ℕ). last_in hashes (bucket_count n) b n) (range_with_len 0 (bucket_count n)) ∙ length-range_with_len 0 (bucket_count n) in

@@ -2,7 +2,7 @@
 use Rattle.std.proofs.Common.{◌≡◌, ℕ, ◌+◌, ◌*◌, Bool, true, false, List, [], ◌∷◌, length, map, refl, sym, ap, ◌∙◌, arith}
 use Rattle.std.specs.List.{enumerate_from}
 use Rattle.std.proofs.lemmas.List.{length-map}
-use Rattle.cap_chain.specs.Hash.{hash_of}
+use Rattle.cap_names.specs.Hash.{system_v_hash_of}
 use Rattle.cap_elf.specs.declared.records.Symbol.{Symbol}
 use Rattle.cap_elf.specs.Records.{null_symbol}
 use Rattle.cap_elf.specs.declared.records.Class.TheVariants.{Init, Fini}
@@ -37,14 +37,14 @@ pub length-texts : (ss : List DynSymbolValue) → length (names_of_symbols ss) �
 length-texts [] = refl
 length-texts (s ∷ ss) = let rest = length-texts ss in omega (arith, rest)
 
-pub length-hashes : (ss : List DynSymbolValue) → length (map hash_of (names_of_symbols ss)) ≡ length ss
-length-hashes ss = length-map (names_of_symbols ss) hash_of ∙ length-texts ss
+pub length-hashes : (ss : List DynSymbolValue) → length (map system_v_hash_of (names_of_symbols ss)) ≡ length ss
+length-hashes ss = length-map (names_of_symbols ss) system_v_hash_of ∙ length-texts ss
 
 -- the words of the hash table
 pub words-are : (l : Linked) → AreListed l → words (content_of l) ≡ hash_words l.lists
 unfolding content_of
 words-are l h =
-    let hashes = map hash_of (names_of_symbols l.lists.symbols) in
+    let hashes = map system_v_hash_of (names_of_symbols l.lists.symbols) in
     let a : length l.lists.symbols ≡ length hashes = sym (length-hashes l.lists.symbols) in
     let b : 1 + length (planned_from 1 (named_symbols l)) ≡ length hashes =
     omega (arith, planned-length 1 (named_symbols l), ap length h.symbols, a) in

@@ -3,7 +3,7 @@ use Rattle.std.specs.Prelude.{◌≡◌, ℕ, ◌+◌, ◌*◌, Bool, true, fals
 use Rattle.std.specs.List.{enumerate_from}
 use Rattle.cap_elf.specs.declared.decode.DynEntry.{DynEntry}
 use Rattle.cap_elf.specs.Dynamic.{value_of}
-use Rattle.cap_elf.specs.declared.tags.TheConstants.{HASH, STRTAB, SYMTAB, STRSZ, SYMENT, SYMBOLIC, RELA, RELASZ, RELAENT, PLTRELSZ, PLTREL, JMPREL, INIT_ARRAY, FINI_ARRAY, INIT_ARRAYSZ, FINI_ARRAYSZ, CAP_RELOCS, CAP_RELOCSZ}
+use Rattle.cap_elf.specs.Numbers.{DT_HASH, DT_STRTAB, DT_SYMTAB, DT_STRSZ, DT_SYMENT, DT_SYMBOLIC, DT_RELA, DT_RELASZ, DT_RELAENT, DT_PLTRELSZ, DT_PLTREL, DT_JMPREL, DT_INIT_ARRAY, DT_FINI_ARRAY, DT_INIT_ARRAYSZ, DT_FINI_ARRAYSZ, DT_CAP_RELOCS, DT_CAP_RELOCSZ}
 use Rattle.cap_readback.specs.Stands.{fields}
 use Rattle.cap_readback.specs.Written.{Field}
 
@@ -68,21 +68,21 @@ entries_of needed own relas caps init fini v =
 
 -- what the entries of these tags say
 pub record Tell (used : List DynEntry) (relas caps init fini : Bool) (v : Values) : Type 0 where
-  pub hash : value_of used HASH ≡ Some v.hash
-  pub strings : value_of used STRTAB ≡ Some v.strings
-  pub symbols : value_of used SYMTAB ≡ Some v.symbols
-  pub strings_size : value_of used STRSZ ≡ Some v.strings_size
-  pub symbol_size : value_of used SYMENT ≡ Some 24
-  pub symbolic : value_of used SYMBOLIC ≡ None
-  pub relas_at : value_of used RELA ≡ option_if relas v.relas
-  pub relas_size : value_of used RELASZ ≡ option_if relas v.relas_size
-  pub rela_size : value_of used RELAENT ≡ option_if relas 24
-  pub jumps_at : value_of used JMPREL ≡ None
-  pub jumps_size : value_of used PLTRELSZ ≡ None
-  pub jumps_kind : value_of used PLTREL ≡ None
-  pub caps_at : value_of used CAP_RELOCS ≡ option_if caps v.caps
-  pub caps_size : value_of used CAP_RELOCSZ ≡ option_if caps v.caps_size
-  pub init_at : value_of used INIT_ARRAY ≡ option_if init v.init
-  pub init_size : value_of used INIT_ARRAYSZ ≡ option_if init v.init_size
-  pub fini_at : value_of used FINI_ARRAY ≡ option_if fini v.fini
-  pub fini_size : value_of used FINI_ARRAYSZ ≡ option_if fini v.fini_size
+  pub hash : value_of used DT_HASH ≡ Some v.hash
+  pub strings : value_of used DT_STRTAB ≡ Some v.strings
+  pub symbols : value_of used DT_SYMTAB ≡ Some v.symbols
+  pub strings_size : value_of used DT_STRSZ ≡ Some v.strings_size
+  pub symbol_size : value_of used DT_SYMENT ≡ Some 24
+  pub symbolic : value_of used DT_SYMBOLIC ≡ None
+  pub relas_at : value_of used DT_RELA ≡ option_if relas v.relas
+  pub relas_size : value_of used DT_RELASZ ≡ option_if relas v.relas_size
+  pub rela_size : value_of used DT_RELAENT ≡ option_if relas 24
+  pub jumps_at : value_of used DT_JMPREL ≡ None
+  pub jumps_size : value_of used DT_PLTRELSZ ≡ None
+  pub jumps_kind : value_of used DT_PLTREL ≡ None
+  pub caps_at : value_of used DT_CAP_RELOCS ≡ option_if caps v.caps
+  pub caps_size : value_of used DT_CAP_RELOCSZ ≡ option_if caps v.caps_size
+  pub init_at : value_of used DT_INIT_ARRAY ≡ option_if init v.init
+  pub init_size : value_of used DT_INIT_ARRAYSZ ≡ option_if init v.init_size
+  pub fini_at : value_of used DT_FINI_ARRAY ≡ option_if fini v.fini
+  pub fini_size : value_of used DT_FINI_ARRAYSZ ≡ option_if fini v.fini_size

@@ -1,18 +1,18 @@
--- The definitions of a name in an object, as the chains find them.
-use Rattle.std.proofs.Common.{◌≡◌, ℕ, zero, suc, ◌+◌, ◌<◌, Bool, true, false, ◌&&◌, cond, List, [], ◌∷◌, ◌++◌, length, get_or, take, map, Some, None, inl, inr, refl, sym, ap, ◌∙◌, arith}
-use Rattle.std.specs.Prelude.{◌==◌, nat_lt, bytes_eq, filter, zip}
-use Rattle.std.specs.List.{enumerate_from, position_or_len}
-use Rattle.std.proofs.lemmas.Bool.{ltb-true, both_ways, cases_Bool, false_from_ne_true}
+-- The definitions of a name in an object, from the symbol that is found.
+use Rattle.std.proofs.Common.{◌≡◌, ℕ, zero, suc, ◌+◌, ◌<◌, Bool, true, false, ◌&&◌, cond, List, [], ◌∷◌, ◌++◌, length, get_or, take, map, Some, None, refl, sym, ap, ◌∙◌, arith}
+use Rattle.std.specs.Prelude.{◌==◌, bytes_eq, filter, zip}
+use Rattle.std.specs.List.{enumerate_from}
+use Rattle.std.proofs.lemmas.Bool.{both_ways, false_from_ne_true}
 use Rattle.std.proofs.lemmas.List.{map_more}
-use Rattle.std.proofs.lemmas.List.Sums.{passes_at_first}
 use Rattle.std.proofs.lemmas.Slice.Zip.{get_or-zip, length-zip}
 use Rattle.std.proofs.Math.ListN.{get_or-map}
 use Rattle.cap_elf.specs.declared.records.Symbol.{Symbol}
 use Rattle.cap_elf.specs.Records.{null_symbol}
 use Rattle.cap_elf.specs.DynView.{DynRecords}
-use Rattle.cap_chain.specs.Adopted.{Named, IsOnly, matches, first_defined}
+use Rattle.cap_names.specs.Named.{IsOnly, matches, first_defined}
 use Rattle.cap_scope.specs.declared.choice.Candidate.{Candidate}
 use Rattle.cap_scope.specs.Candidates.{NamedSymbol, can_be_chosen, is_named, defined_name, hash_table, candidate, candidates_in}
+use Rattle.cap_scope.proofs.Exported.{first_matches}
 
 abbrev no_symbol : NamedSymbol
 no_symbol = (null_symbol 0, [])
@@ -46,19 +46,6 @@ module _ (name : List ℕ) where
       ∙ kept-one xs (s + 1) k h (λ j m. let z : suc j ≡ suc k = only (suc j) m in omega (arith, z))
       ∙ ap (λ n. (n, get_or xs k no_symbol) ∷ []) e
 
-  found-matches : (names : List Named) (k : ℕ) → Some k ≡ first_defined names name → (k < length names) × (matches names name k ≡ true)
-  found-matches names k e =
-      let test : Named → Bool = λ p. p.1 && bytes_eq p.0 name in
-      let f : ℕ = position_or_len test names in
-      elim (cases_Bool (nat_lt f (length names))) [
-        | inl inside ↦
-            let some : Some k ≡ Some f = e ∙ ap (λ b. cond b (Some f) None) inside in
-            let same : k ≡ f = cc some in
-            let lt : f < length names = ltb-true f (length names) inside in
-            (omega (arith, same, lt), ap (matches names name) same ∙ passes_at_first test names ([], false) lt)
-        | inr outside ↦ let none : Some k ≡ None = e ∙ ap (λ b. cond b (Some f) None) outside in absurd (cc none)
-      ]
-
   module _ (object : DynRecords) (i : ℕ) where
     abbrev symbols : List NamedSymbol
     symbols = zip object.symbols object.names
@@ -74,12 +61,12 @@ module _ (name : List ℕ) where
     made k is_strong = record { hit = record { object = i; symbol = k }; is_strong = is_strong }
 
     pub found_inside : (k : ℕ) → Some k ≡ first_defined (hash_table object).names name → k < length (hash_table object).names
-    found_inside k e = (found-matches (hash_table object).names k e).0
+    found_inside k e = (first_matches name (hash_table object).names k e).0
 
     pub one_in : (k : ℕ) → k < length object.symbols → k < length object.names → Some k ≡ first_defined (hash_table object).names name → IsOnly (hash_table object).names name (Some k) → candidates_in object i name ≡ made k ((get_or object.symbols k (null_symbol 0)).binding == 1) ∷ []
     one_in k lt lt2 e only =
         let z : 0 + k ≡ k = omega arith in
-        let found : is_named name (get_or symbols k no_symbol) ≡ true = sym (matches_is k) ∙ (found-matches (hash_table object).names k e).1 in
+        let found : is_named name (get_or symbols k no_symbol) ≡ true = sym (matches_is k) ∙ (first_matches name (hash_table object).names k e).1 in
         let at : get_or symbols k no_symbol ≡ (get_or object.symbols k (null_symbol 0), get_or object.names k []) = get_or-zip object.symbols object.names k no_symbol lt lt2 in
         ap (map (λ s. candidate i s)) (kept-one symbols 0 k found (λ j m. let same : Some k ≡ Some j = only j (matches_is j ∙ m) in let eq : j ≡ k = cc same in eq))
         ∙ ap (λ n. candidate i (n, get_or symbols k no_symbol) ∷ []) z

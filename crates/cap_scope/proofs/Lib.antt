@@ -1,4 +1,5 @@
 pub mod Growing
-pub mod Distinct
+pub mod Tables
+pub mod Exported
 pub mod Candidates
 pub mod Choices

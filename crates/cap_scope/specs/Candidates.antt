@@ -4,7 +4,8 @@ use Rattle.std.specs.List.{enumerate_from}
 use Rattle.cap_elf.specs.declared.records.Symbol.{Symbol}
 use Rattle.cap_elf.specs.Exported.{is_defined}
 use Rattle.cap_elf.specs.DynView.{DynRecords}
-use Rattle.cap_chain.specs.Adopted.{Named, ChainTable, table_of}
+use Rattle.cap_chain.specs.Adopted.{ChainTable, table_of}
+use Rattle.cap_names.specs.Named.{Named}
 use Rattle.cap_scope.specs.declared.choice.Candidate.{Candidate}
 
 -- STB_GLOBAL

@@ -23,6 +23,13 @@ pub(crate) struct Candidate {
     pub(crate) is_strong: bool,
 }
 
+/// What the look-up of a name finds in one object, and how many entries of its chain it passes.
+#[derive(Clone, Copy, Debug, PartialEq, Eq)]
+pub(crate) struct LookUp {
+    pub(crate) found: Option<Candidate>,
+    pub(crate) walked: u32,
+}
+
 /// The definition that is chosen, by its binding.
 #[derive(Clone, Copy, Debug, PartialEq, Eq)]
 pub enum Choice {

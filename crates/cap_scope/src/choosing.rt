@@ -7,6 +7,7 @@ ghost use Rattle.cap_scope.specs.Chosen.{chosen, walked, decides as decides_by, 
 
 use crate::choice::{Candidate, Choice, Found, Rule};
 use crate::object::Object;
+use cap_names::system_v_hash;
 
 /// Whether a definition ends the search.
 fn decides(rule: Rule, candidate: Candidate) -> bool
@@ -74,19 +75,20 @@ pub fn choose(objects: &[Object], scope: &[u32], name: &[u8], rule: Rule) -> Fou
     ensures choice { result.choice ≡ chosen rule (map (λ o. o.records) objects.now) scope.now name.now }
     ensures walked { result.walked ≡ walked rule (map (λ o. o.records) objects.now) scope.now name.now }
 {
+    let hash = system_v_hash(name);
     let mut first: Option<Candidate> = None;
     let mut walked = 0u128;
     for i in scope {
         let object = &objects[*i as usize];
-        walked += u128::from(object.walk(name));
-        let found = object.candidate(*i, name);
-        if let Some(candidate) = if_deciding(rule, found) {
+        let here = object.look_up(*i, name, hash);
+        walked += u128::from(here.walked);
+        if let Some(candidate) = if_deciding(rule, here.found) {
             return Found {
                 choice: as_bound(candidate),
                 walked,
             };
         }
-        first = earlier(first, found);
+        first = earlier(first, here.found);
     }
     Found {
         choice: choice_of(first),

@@ -1,27 +1,30 @@
 //! Shared objects whose hash tables were adopted.
 
-ghost use Rattle.std.specs.Prelude.{◌≡◌, ◌<◌, length, map, zip, IfOk, IfSome};
+ghost use Rattle.std.specs.Prelude.{◌≡◌, ◌<◌, [], length, map, zip, slice_index_or, IfOk, IfSome};
 ghost use Rattle.cap_chain.specs.Adopted.{walk_of};
 ghost use Rattle.cap_elf.specs.Exported.{is_defined as is_defined_at};
-ghost use Rattle.cap_scope.specs.Candidates.{can_be_chosen as is_choosable, defined_name, hash_table, candidates_in, list_of};
+ghost use Rattle.cap_elf.specs.Records.{null_symbol};
+ghost use Rattle.cap_names.specs.Hash.{system_v_hash_of};
+ghost use Rattle.cap_names.specs.Named.{first_defined, IsOnly};
+ghost use Rattle.cap_scope.specs.Candidates.{can_be_chosen as is_choosable, defined_name, hash_table, candidate as candidate_of, candidates_in, list_of};
 ghost use Rattle.cap_scope.specs.Making.{MakesObject};
 
-use crate::choice::{Candidate, Hit};
+use crate::choice::{Candidate, Hit, LookUp};
 use cap_base::{Check, Fault, NameList, NoMemory, Refusal};
-use cap_chain::{AdoptRefusal, Chains, adopt};
+use cap_chain::{AdoptRefusal, ChainCounts, count_chains};
 use cap_elf::{DynFile, Place, Symbol};
 use std::alloc::Global;
 use std::marker::Model;
 
-/// A shared object with its symbols by their names. Contracts see the file.
+/// A shared object, and the counts of its hash chains. Contracts see the file.
 #[derive(Drop)]
 pub struct Object {
     file: DynFile,
-    chains: Chains,
+    counts: ChainCounts,
 }
 
 impl Model for Object {
-    ghost use Rattle.std.specs.Prelude.{◌≡◌};
+    ghost use Rattle.cap_chain.specs.Counted.{IsCounted};
     ghost use Rattle.cap_elf.specs.DynView.{DynValue};
     ghost use Rattle.cap_scope.specs.Candidates.{hash_table};
 
@@ -29,7 +32,7 @@ impl Model for Object {
 
     ghost view = { λ o. o.file };
 
-    ghost invariant = { λ o. o.chains ≡ hash_table o.file.records };
+    ghost invariant = { λ o. IsCounted o.file.records.hash_words (hash_table o.file.records).names o.counts };
 }
 
 /// Whether a symbol of this place is defined: in a section, or absolute.
@@ -63,6 +66,35 @@ fn names_of(alloc: Global, file: &DynFile) -> Result<NameList, NoMemory>
     Ok(names)
 }
 
+/// The symbol that can be chosen and has this name, whose hash is given; None exactly where there is none.
+fn find(file: &DynFile, name: &[u8], hash: u32) -> Option<u32>
+    requires { hash ≡ system_v_hash_of name.now }
+    ensures first { result ≡ first_defined (hash_table file.now.records).names name.now }
+    ensures only { IsOnly (hash_table file.now.records).names name.now result }
+{
+    match file.find_exported(name, hash) {
+        Some(symbol) => {
+            if can_be_chosen(file.symbols()[symbol as usize]) {
+                Some(symbol)
+            } else {
+                None
+            }
+        }
+        None => None,
+    }
+}
+
+/// A symbol of the object that has the number `i`, as a definition.
+fn candidate(file: &DynFile, i: u32, symbol: u32) -> Candidate
+    requires { symbol < length file.now.records.symbols }
+    ensures { result ≡ candidate_of i (symbol, (slice_index_or file.now.records.symbols symbol (null_symbol 0), [])) }
+{
+    Candidate {
+        hit: Hit { object: i, symbol },
+        is_strong: file.symbols()[symbol as usize].binding == 1,
+    }
+}
+
 impl Object {
     /// The object of a file.
     ///
@@ -75,8 +107,8 @@ impl Object {
         let Ok(names) = names_of(alloc, &file) else {
             return Err(Refusal::NoMemory);
         };
-        match adopt(alloc, file.hash_words(), names) {
-            Ok(chains) => Ok(Object { file, chains }),
+        match count_chains(alloc, file.hash_words(), &names) {
+            Ok(counts) => Ok(Object { file, counts }),
             Err(AdoptRefusal::Fault) => {
                 let fault = Fault {
                     check: Check::HashChain,
@@ -102,24 +134,25 @@ impl Object {
         names_of(alloc, &self.file)
     }
 
-    /// How many entries of its chain the look-up of a name passes.
-    pub(crate) fn walk(&self, name: &[u8]) -> u32
-        ensures { result ≡ walk_of (hash_table self.now.records) name.now }
+    /// The definition of a name, whose hash is given, in this object, which has the number `i`; and how many entries of
+    /// the name's chain its look-up passes. It takes no step along the chain.
+    pub(crate) fn look_up(&self, i: u32, name: &[u8], hash: u32) -> LookUp
+        requires { hash ≡ system_v_hash_of name.now }
+        ensures value { candidates_in self.now.records i name.now ≡ list_of result.found }
+        ensures there { IfSome result.found (λ c. (c.hit.object ≡ i) × (c.hit.symbol < length self.now.records.symbols)) }
+        ensures walked { result.walked ≡ walk_of (hash_table self.now.records) name.now }
     {
-        self.chains.walk(name)
-    }
-
-    /// The definition of a name in this object, which has the number `i`.
-    pub(crate) fn candidate(&self, i: u32, name: &[u8]) -> Option<Candidate>
-        ensures value { candidates_in self.now.records i name.now ≡ list_of result }
-        ensures there { IfSome result (λ c. (c.hit.object ≡ i) × (c.hit.symbol < length self.now.records.symbols)) }
-    {
-        match self.chains.find(name) {
-            Some(symbol) => Some(Candidate {
-                hit: Hit { object: i, symbol },
-                is_strong: self.file.symbols()[symbol as usize].binding == 1,
-            }),
-            None => None,
+        let found = find(&self.file, name, hash);
+        let walked = self.counts.passed(self.file.hash_words(), hash, found);
+        match found {
+            Some(symbol) => LookUp {
+                found: Some(candidate(&self.file, i, symbol)),
+                walked,
+            },
+            None => LookUp {
+                found: None,
+                walked,
+            },
         }
     }
 }
