@@ -20,3 +20,5 @@ mod StoredLaws
 pub mod NarrowedWords
 pub mod NotedWords
 mod SoundStored
+pub mod Meant
+pub mod Shown

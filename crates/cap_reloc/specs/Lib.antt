@@ -13,3 +13,5 @@ pub mod Adds
 pub mod Stores
 pub mod Laws
 pub mod Noted
+pub mod Meant
+pub mod Shown

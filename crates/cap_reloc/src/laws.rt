@@ -10,6 +10,8 @@ ghost use Rattle.cap_reloc.specs.Laws.{
   StoredIsSound,
   StoredIsNoted,
 };
+ghost use Rattle.cap_reloc.specs.Meant.{WantedIsMeant};
+ghost use Rattle.cap_reloc.specs.Shown.{StoredIsMeant};
 ghost use Rattle.cap_reloc.specs.Laws.{WantedIsNarrowed, WantedIsApart, WantedIsInside, WantedIsData, WantedIsNoted, RefusedIsUnfit};
 
 /// States what memory holds once the pairs of an object are stored. It computes nothing.
@@ -24,6 +26,7 @@ pub fn storing_laws()
     ensures size { SizeStays }
     ensures sound { StoredIsSound }
     ensures noted { StoredIsNoted }
+    ensures meant { StoredIsMeant }
 {
     cap_mem::order_laws();
     cap_own::grant_laws();
@@ -37,4 +40,5 @@ pub fn binding_laws()
     ensures unfit { RefusedIsUnfit }
     ensures bounds { WantedIsData }
     ensures noted { WantedIsNoted }
+    ensures meant { WantedIsMeant }
 {}

@@ -64,18 +64,18 @@ behind-end from (o ∷ objects) h =
     let rest = behind-end (o.base + (records_of o).span) objects h.2 in
     omega (arith, low, rest)
 
-roots-low : (n from : ℕ) (objects : List Loaded) → LieBehind from objects → All (λ (root : Mapping). root.base + root.len ≤ 2 ^ 62) (roots_from n objects)
+pub roots-low : (n from : ℕ) (objects : List Loaded) → LieBehind from objects → All (λ (root : Mapping). root.base + root.len ≤ 2 ^ 62) (roots_from n objects)
 roots-low n from [] h = All-nil (λ (root : Mapping). root.base + root.len ≤ 2 ^ 62)
 roots-low n from (o ∷ objects) h =
     let high = behind-end (o.base + (records_of o).span) objects h.2 in
     All-cons (λ (root : Mapping). root.base + root.len ≤ 2 ^ 62) (root_of n o) (roots_from (n + 1) objects) (omega (arith, high)) (roots-low (n + 1) (o.base + (records_of o).span) objects h.2)
 
-sound-at : (from : ℕ) (objects : List Loaded) (k : ℕ) (d : Loaded) → LieBehind from objects → All IsRead (map records_of objects) → k < length objects → IsMemory (placed_memory (get_or objects k d))
+pub sound-at : (from : ℕ) (objects : List Loaded) (k : ℕ) (d : Loaded) → LieBehind from objects → All IsRead (map records_of objects) → k < length objects → IsMemory (placed_memory (get_or objects k d))
 sound-at from [] k d h read lt = absurd (omega (arith, lt))
 sound-at from (o ∷ objects) zero d h read lt = placed-sound o (All-head IsRead (records_of o) (map records_of objects) read) h.1 (behind-end (o.base + (records_of o).span) objects h.2)
 sound-at from (o ∷ objects) (suc k) d h read lt = sound-at (o.base + (records_of o).span) objects k d h.2 (All-tail IsRead (records_of o) (map records_of objects) read) (omega (arith, lt))
 
-placed-unrelocated : (objects : List Loaded) (i : ℕ) (d : Loaded) → i < length objects → IsUnrelocated (roots_from 0 objects) i (placed_memory (get_or objects i d))
+pub placed-unrelocated : (objects : List Loaded) (i : ℕ) (d : Loaded) → i < length objects → IsUnrelocated (roots_from 0 objects) i (placed_memory (get_or objects i d))
 placed-unrelocated objects i d lt =
     let o : Loaded = get_or objects i d in
     let memory : TaggedMemory = placed_memory o in

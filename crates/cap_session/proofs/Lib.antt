@@ -31,3 +31,5 @@ pub mod Runs
 pub mod HeldNames
 pub mod HeldObjects
 pub mod HeldStates
+pub mod Bound
+pub mod Shown

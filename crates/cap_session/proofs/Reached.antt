@@ -171,7 +171,7 @@ one-call laws fetch dir rule state call given h = go (opened fetch dir rule stat
     go (Ok next) e = call-reached laws fetch dir rule state call.name (mode_of call.form) next given h e
     go (Err refusal) e = h
 
-calls-reached : (laws : PairLaws) (fetch : Fetch) (dir : List ℕ) (rule : Rule) (state : State) (calls : List Call) → GivesRead fetch → IsReached state → IsReached (after_calls fetch dir rule state calls)
+pub calls-reached : (laws : PairLaws) (fetch : Fetch) (dir : List ℕ) (rule : Rule) (state : State) (calls : List Call) → GivesRead fetch → IsReached state → IsReached (after_calls fetch dir rule state calls)
 calls-reached laws fetch dir rule state [] given h = h
 calls-reached laws fetch dir rule state (call ∷ calls) given h = calls-reached laws fetch dir rule (after_call fetch dir rule state call) calls given (one-call laws fetch dir rule state call given h)
 

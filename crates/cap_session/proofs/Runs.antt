@@ -139,14 +139,14 @@ after-one fetch dir rule state [] call = refl
 after-one fetch dir rule state (c ∷ before) call = after-one fetch dir rule (after_call fetch dir rule state c) before call
 
 -- the calls that are left, behind others of the run
-record IsAt (fetch : Fetch) (dir main : List ℕ) (rule : Rule) (all : List Call) (state : State) (left : List Call) : Type 0 where
+pub record IsAt (fetch : Fetch) (dir main : List ℕ) (rule : Rule) (all : List Call) (state : State) (left : List Call) : Type 0 where
   pub first : State
   pub begun : started fetch dir main rule ≡ Ok first
   pub before : List Call
   pub calls_are : all ≡ before ++ left
   pub state_is : state ≡ after_calls fetch dir rule first before
 
-next-at : (fetch : Fetch) (dir main : List ℕ) (rule : Rule) (all : List Call) (state : State) (call : Call) (left : List Call) → IsAt fetch dir main rule all state (call ∷ left) → IsAt fetch dir main rule all (after_call fetch dir rule state call) left
+pub next-at : (fetch : Fetch) (dir main : List ℕ) (rule : Rule) (all : List Call) (state : State) (call : Call) (left : List Call) → IsAt fetch dir main rule all state (call ∷ left) → IsAt fetch dir main rule all (after_call fetch dir rule state call) left
 next-at fetch dir main rule all state call left h = record {
   first = h.first;
   begun = h.begun;
@@ -155,7 +155,7 @@ next-at fetch dir main rule all state call left h = record {
   state_is = ap (λ (s : State). after_call fetch dir rule s call) h.state_is ∙ sym (after-one fetch dir rule h.first h.before call);
 }
 
-call-at : (fetch : Fetch) (dir main : List ℕ) (rule : Rule) (all : List Call) (state : State) (call : Call) (left : List Call) → IsAt fetch dir main rule all state (call ∷ left) → IsCallOf fetch dir main rule all state call
+pub call-at : (fetch : Fetch) (dir main : List ℕ) (rule : Rule) (all : List Call) (state : State) (call : Call) (left : List Call) → IsAt fetch dir main rule all state (call ∷ left) → IsCallOf fetch dir main rule all state call
 call-at fetch dir main rule all state call left h =
     record { first = h.first; begun = h.begun; before = h.before; later = left; calls_are = h.calls_are; state_is = h.state_is }
 
@@ -193,7 +193,7 @@ ended-by : (Q : OpenRefusal → Type 0) (o : Option OpenRefusal) (state : State)
 ended-by Q None state refusal h e = absurd cc
 ended-by Q (Some r) state refusal h e = let same : r ≡ refusal = cc in subst Q same h
 
-begins-at : (fetch : Fetch) (dir main : List ℕ) (rule : Rule) (calls : List Call) (first : State) → started fetch dir main rule ≡ Ok first → IsAt fetch dir main rule calls first calls
+pub begins-at : (fetch : Fetch) (dir main : List ℕ) (rule : Rule) (calls : List Call) (first : State) → started fetch dir main rule ≡ Ok first → IsAt fetch dir main rule calls first calls
 begins-at fetch dir main rule calls first is = record { first = first; begun = is; before = []; calls_are = refl; state_is = refl }
 
 pub ended-blamed : (laws : PairLaws) (fetch : Fetch) (dir main : List ℕ) (rule : Rule) (calls : List Call) (refusal : OpenRefusal) → GivesRead fetch → (outcome_from fetch dir rule calls (started fetch dir main rule)).«end» ≡ Err refusal → IsBlamed fetch dir main rule calls refusal

@@ -17,3 +17,4 @@ pub mod Endings
 pub mod Kept
 pub mod Exact
 pub mod Held
+pub mod Bound

@@ -1,5 +1,6 @@
 ghost use Rattle.cap_session.specs.Exact.{InexactIsUnfit, NamesAreAnswered, RunsAreSound, StatesAreReached, StatesLieApart, StoresGiveRead};
 ghost use Rattle.cap_session.specs.Held.{RunsAreHeld};
+ghost use Rattle.cap_session.specs.Bound.{RunsAreBound, RunsAreShown};
 
 /// States what holds of every state that a start and calls lead to, and of a refusal. It computes nothing.
 pub fn state_laws()
@@ -10,6 +11,8 @@ pub fn state_laws()
     ensures unfit { InexactIsUnfit }
     ensures runs { RunsAreSound }
     ensures held { RunsAreHeld }
+    ensures bound { RunsAreBound }
+    ensures shown { RunsAreShown }
 {
     cap_elf::read_laws();
     cap_reloc::binding_laws();

@@ -1,5 +1,6 @@
 use Rattle.cap_reloc.proofs.FromPlan.{sound_pairs, narrowed_pairs, data_pairs, slots_in}
 use Rattle.cap_reloc.proofs.SoundPlan.{pairs_say}
+use Rattle.cap_reloc.proofs.Meant.{pairs_are_meant}
 use Rattle.cap_reloc.proofs.NotedWords.{notes_are_symbols, placed_names}
 use Rattle.cap_reloc.proofs.laws.binding_laws.Goals as goal
 
@@ -20,3 +21,6 @@ returns-clause-bounds c = λ roots setting pairs placed is. data_pairs roots set
 
 pub returns-clause-noted : goal.returns-clause-noted
 returns-clause-noted c = λ roots setting pairs placed is. notes_are_symbols setting pairs (placed_names roots setting placed) is
+
+pub returns-clause-meant : goal.returns-clause-meant
+returns-clause-meant c = pairs_are_meant

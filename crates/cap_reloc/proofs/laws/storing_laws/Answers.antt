@@ -1,4 +1,5 @@
 use Rattle.cap_reloc.proofs.StoredLaws.{tags_are, words_are, capabilities_stand, bytes_are_words, lists_are, slots_filled, others_stay, size_stays}
+use Rattle.cap_reloc.proofs.Shown.{stored_meant}
 use Rattle.cap_reloc.proofs.SoundStored.{stored_noted, stored_sound}
 use Rattle.cap_reloc.proofs.laws.storing_laws.Goals as goal
 
@@ -31,3 +32,6 @@ returns-clause-sound c = λ roots pairs memory low sound none inside apart narro
 
 pub returns-clause-noted : goal.returns-clause-noted
 returns-clause-noted c = stored_noted
+
+pub returns-clause-meant : goal.returns-clause-meant
+returns-clause-meant c = stored_meant c.order_laws.ensures.tags c.grant_laws.ensures

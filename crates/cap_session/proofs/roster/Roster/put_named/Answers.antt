@@ -9,9 +9,9 @@ use Rattle.cap_session.specs.Roster.{RosterValue, IsRoster}
 use Rattle.cap_session.specs.RosterFields.{roster_of}
 use Rattle.cap_session.proofs.RosterLemmas.{mapping_is, roster_more, take_back}
 use Rattle.cap_session.proofs.roster.Roster.put_named.Goals as goal
-use Rattle.cap_session.proofs.roster.Roster.put_named.Goals.{After-push_reserved-in-Ok-place-4, After-drop-object-inside-in-Err-place-13}
+use Rattle.cap_session.proofs.roster.Roster.put_named.Goals.{After-push_reserved-in-Ok-place-4, After-drop-object-inside-in-Err-place-14}
 
-back : (c : After-drop-object-inside-in-Err-place-13) → c.cut.new.self ≡ c.self.inside.names
+back : (c : After-drop-object-inside-in-Err-place-14) → c.cut.new.self ≡ c.self.inside.names
 back c =
     c.cut.ensures ∙ ap (take c.len-count.result) c.in-Ok-push.ensures.ok
     ∙ take_back c.len-count.result c.self.inside.names (c.args.name.now, true) (omega (arith, c.len-count.ensures, c.self.inside.objects.ok, c.self.invariant.roster.name_count))
