@@ -11,7 +11,7 @@ use Rattle.cap_map.proofs.Pages.{multiple_pages}
 use Rattle.cap_mem.specs.Ascending.{Ascend}
 use Rattle.cap_mem.specs.Tagged.{TaggedMemory}
 use Rattle.cap_image.specs.ReadBack.{CanBeRead}
-use Rattle.cap_image.specs.Writing.{CanBeWritten, IsObjectName}
+use Rattle.cap_image.specs.Writing.{IsObjectName}
 use Rattle.cap_scope.specs.Candidates.{hash_table}
 use Rattle.cap_session.specs.Exact.{IsReached, LieBehind}
 use Rattle.cap_session.specs.Held.{IsHeldState, IsMappedAt, state_symbols}
