@@ -32,3 +32,4 @@ pub mod Answered
 pub mod ExactRuns
 mod Neighbours
 pub mod LoadImages
+pub mod Claims

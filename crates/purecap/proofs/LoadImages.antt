@@ -20,24 +20,23 @@ use Rattle.cap_init.specs.Calls.{memory_at}
 use Rattle.cap_init.specs.Post.{init_order}
 use Rattle.cap_init.specs.Laws.{AllAreCalls, IsCall}
 use Rattle.cap_init.specs.declared.call.Call.{Call}
-use Rattle.cap_loaded.specs.Images.{HoldsWord, IsReadBack, LeadsTo, StatesAreReadBack, StatesHoldWords, state_image}
+use Rattle.cap_loaded.specs.Images.{HoldsWord, LeadsTo, StatesAreReadBack, StatesHoldWords, state_image}
 use Rattle.cap_mem.specs.Held.{cap_in, fields_in}
-use Rattle.cap_mem.specs.Tagged.{TaggedMemory, TaggedWord, fresh_memory, stands_at, tagged_word}
+use Rattle.cap_mem.specs.Tagged.{TaggedMemory, TaggedWord, stands_at}
 use Rattle.cap_own.specs.Cap.{Cap}
 use Rattle.cap_session.specs.declared.refusal.OpenRefusal.{OpenRefusal}
 use Rattle.cap_session.specs.Loading.{dependencies, records_of}
-use Rattle.cap_session.specs.Mappings.{IsName}
 use Rattle.cap_session.specs.State.{State, memories_of}
 use Rattle.purecap.specs.declared.faults.Failure.{Failure}
 use Rattle.purecap.specs.declared.faults.Failure.TheVariants.{Limit}
 use Rattle.purecap.specs.Answer.{audit_by, audit_story, called, compared, compared_by, ended_by, init_story, program_outcome}
 use Rattle.purecap.specs.Faults.{status_of}
-use Rattle.purecap.specs.Images.{file_image, image_in, image_or}
-use Rattle.purecap.specs.Initial.{initial_calls, initial_text}
-use Rattle.purecap.specs.LoadImage.{AuditsImage, IsEntry, IsImageOf, IsImageRun, PrintsEntries, SpeaksOfImage, TellsImage}
-use Rattle.purecap.specs.ProgramWords.{IsCallName, IsProgram, ProgramWords}
-use Rattle.purecap.specs.Run.{Audits, Disk, EndsAs, Ends, Inits, IsDone, IsGiven, IsWritten, Runs, Stream, end_status}
-use Rattle.purecap.specs.Story.{Differing, Printed, Product, Saved, Stop, Story}
+use Rattle.purecap.specs.Images.{image_in, image_or}
+use Rattle.purecap.specs.Initial.{initial_calls}
+use Rattle.purecap.specs.LoadImage.{IsEntry, IsImageOf, IsImageRun, PrintsEntries, SpeaksOfImage, TellsImage}
+use Rattle.purecap.specs.ProgramWords.{IsProgram, ProgramWords}
+use Rattle.purecap.specs.Run.{Disk, EndsAs, Ends, IsGiven, Runs, Stream, end_status}
+use Rattle.purecap.specs.Story.{Differing, Product, Stop, Story}
 use Rattle.purecap.specs.Words.{Audit, Command, Demo, Init, Link, Load, Reach, Show, command_of}
 use Rattle.purecap.proofs.Accepted.{command_passed}
 use Rattle.purecap.proofs.Ways.{CutShort, Different, Done, Refused, Starved, Unread, Way, way_of}
@@ -49,7 +48,7 @@ pub record ImageLaws : Type 0 where
   pub written : NoneWhereWritten
   pub calls : AllAreCalls
 
-leads_to : (words : ProgramWords) (store : Store) (state : State) → IsProgram words → (program_outcome words store).«end» ≡ Ok state → LeadsTo store words.dir words.main words.rule words.calls state
+pub leads_to : (words : ProgramWords) (store : Store) (state : State) → IsProgram words → (program_outcome words store).«end» ≡ Ok state → LeadsTo store words.dir words.main words.rule words.calls state
 leads_to words store state is e = record { main_is = is.main; calls_are = λ k d below. (is.names k d below).0; «end» = e }
 
 -- ---- entries
@@ -93,12 +92,12 @@ entries laws words store state is e =
 -- ---- how a story ends
 
 -- the state of which a command made a product
-record IsProductOf (product : State → Product) (end : Result State OpenRefusal) (made : Product) : Type 0 where
-  state : State
-  leads : end ≡ Ok state
-  is : product state ≡ made
+pub record IsProductOf (product : State → Product) (end : Result State OpenRefusal) (made : Product) : Type 0 where
+  pub state : State
+  pub leads : end ≡ Ok state
+  pub is : product state ≡ made
 
-product_of : (product : State → Product) (end : Result State OpenRefusal) (made : Product) → ended_by product end ≡ Ok made → IsProductOf product end made
+pub product_of : (product : State → Product) (end : Result State OpenRefusal) (made : Product) → ended_by product end ≡ Ok made → IsProductOf product end made
 product_of product (Ok state) made e = record { state = state; leads = refl; is = same (product state) e }
   where
     same : (p : Product) → ◌≡◌ {A = Result Product Stop} (Ok p) (Ok made) → p ≡ made

@@ -20,3 +20,4 @@ pub mod Summing
 pub mod Exact
 pub mod Beside
 pub mod LoadImage
+pub mod Claim

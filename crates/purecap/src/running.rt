@@ -2,6 +2,7 @@
 
 ghost use Rattle.std.specs.Prelude.{◌≡◌, []};
 ghost use Rattle.purecap.specs.Words.{command_of as command_in};
+ghost use Rattle.purecap.specs.Claim.{IsClaimedRun, RunsKeepClaim};
 ghost use Rattle.purecap.specs.Exact.{IsExactRun};
 ghost use Rattle.purecap.specs.LoadImage.{IsImageRun, RunsTellImages};
 ghost use Rattle.purecap.specs.Run.{counted, streamed, stored, Runs, Answers, HasCauses, Ends, end_status as status_of_end};
@@ -21,6 +22,7 @@ use cap_exact::exact_laws;
 use cap_init::call_laws;
 use cap_loaded::loaded_laws;
 use cap_mem::Memory;
+use cap_session::state_laws;
 use std::alloc::Global;
 
 /// Does what the words ask for, and answers the status of the process.
@@ -68,9 +70,13 @@ pub fn run<F: Files, O: Sink, E: Sink>(
     // `audit` tells the image that `load` would write from all others, and what `init` prints are entries of that image.
     ensures image { IsImageRun (command_in words.now) (F.told files.old)
         (streamed (O.told out.old) (O.told out.new) (O.faults out.old) (O.faults out.new)) result }
+
+    // The claim of the whole: where `load` answers 0, the file that it wrote is the image that the words and the files mean.
+    ensures claim { IsClaimedRun (command_in words.now) (F.told files.old) (F.told files.new) result }
 {
     exact_laws();
     image_laws();
+    claim_laws();
     perform(alloc, words, files, out, err, kept)
 }
 
@@ -81,6 +87,15 @@ fn image_laws()
     loaded_laws();
     audit_laws();
     call_laws();
+}
+
+// What every run says of the file that `load` writes.
+fn claim_laws()
+    ensures { RunsKeepClaim }
+{
+    loaded_laws();
+    state_laws();
+    exact_laws();
 }
 
 // Does what the words ask for, and gives the status of its end.

@@ -14,3 +14,6 @@ returns-clause-exact g c = exact_run c.exact_laws.ensures _ _ _ _ _ _ c.perform.
 
 pub returns-clause-image : goal.returns-clause-image
 returns-clause-image g c = c.image_laws.ensures _ _ _ _ _ _ c.perform.ensures
+
+pub returns-clause-claim : goal.returns-clause-claim
+returns-clause-claim g c = c.claim_laws.ensures _ _ _ _ _ _ c.perform.ensures
