@@ -2,13 +2,14 @@
 use Rattle.std.proofs.Common.{◌≡◌, ℕ, ◌<◌, false, inl, inr, ⊎_elim, List, length, get_or, ap, sym, subst, arith}
 use Rattle.std.specs.Prelude.{All, AllPairs}
 use Rattle.std.proofs.lemmas.Bool.{cases_order, le-ltb, ltb-false}
-use Rattle.std.proofs.lemmas.List.{get_or-map, length-map}
+use Rattle.std.proofs.lemmas.List.{get_or-map, get_or_default, length-map}
 use Rattle.std.proofs.lemmas.List.Elements.{All-from_get_or}
 use Rattle.cap_base.specs.Lists.{share_byte}
-use Rattle.cap_fits.specs.Fits.{Apart, DataLieApart, IsOneOrApart, Placed, ShareNone, loaded_intervals}
+use Rattle.cap_fits.specs.Fits as fits
+use Rattle.cap_fits.specs.Fits.{Apart, DataLieApart, IsOneOrApart, Placed, loaded_intervals}
 use Rattle.cap_session.specs.Exact.{placed_objects}
 use Rattle.cap_session.specs.Loading.{Loaded, records_of}
-use Rattle.cap_exact.specs.Loads.{AreOneOrApart, loaded_data}
+use Rattle.cap_exact.specs.Loads.{AreOneOrApart, ShareNone, loaded_data}
 use Rattle.cap_exact.proofs.Standing.{no_object}
 
 share-turned : (x y : ℕ × ℕ) → share_byte x y ≡ false → share_byte y x ≡ false
@@ -41,35 +42,35 @@ object_at objects i = get_or objects i no_object
 placed-at : (objects : List Loaded) (i : ℕ) → i < length objects → get_or (placed_objects objects) i (place no_object) ≡ place (object_at objects i)
 placed-at objects i lt = get_or-map place objects i no_object (place no_object) lt
 
-abbrev AreApart : Placed → Placed → Type 0
-AreApart a b = Apart a.0 → Apart b.0 → AreOneOrApart (loaded_intervals a.0 a.1) (loaded_intervals b.0 b.1)
-
-before-apart : (a b : Placed) → ShareNone a b → AreApart a b
-before-apart a b h x y = λ i d lt. λ j e lt'. inr (h x y i d lt j e lt')
-
-behind-apart : (a b : Placed) → ShareNone b a → AreApart a b
-behind-apart a b h x y = λ i d lt. λ j e lt'. inr (share-turned _ _ (h y x j e lt' i d lt))
-
--- of any two objects whose own data lie apart
-pub any-apart : (objects : List Loaded) (i j : ℕ) → DataLieApart (placed_objects objects) → i < length objects → j < length objects → AreApart (place (object_at objects i)) (place (object_at objects j))
-any-apart objects i j h lt lt' =
+-- of one object whose data lie apart
+own-at : (objects : List Loaded) (i : ℕ) → DataLieApart (placed_objects objects) → i < length objects → Apart (records_of (object_at objects i)) → AreOneOrApart (loaded_data (object_at objects i)) (loaded_data (object_at objects i))
+own-at objects i h lt apart =
     let many = length-map objects place in
-    let lt-placed : i < length (placed_objects objects) = omega (arith, many, lt) in
-    let lt-placed' : j < length (placed_objects objects) = omega (arith, many, lt') in
-    let first = placed-at objects i lt in
-    let second = placed-at objects j lt' in
-    subst (λ (a : Placed). AreApart a (place (object_at objects j))) first
-    (subst (λ (b : Placed). AreApart (get_or (placed_objects objects) i (place no_object)) b) second
-    (any-order (λ (i j : ℕ). AreApart (get_or (placed_objects objects) i (place no_object)) (get_or (placed_objects objects) j (place no_object))) i j
-    (λ before. before-apart _ _ (h.others i j (place no_object) before lt-placed'))
-    (λ behind. behind-apart _ _ (h.others j i (place no_object) behind lt-placed))
-    (λ same. subst (λ (k : ℕ). AreApart (get_or (placed_objects objects) i (place no_object)) (get_or (placed_objects objects) k (place no_object))) same
-    (λ x y. own-apart _ (h.own i (place no_object) lt-placed x)))))
+    let is = placed-at objects i lt in
+    subst (λ (a : Placed). Apart a.0 → AreOneOrApart (loaded_intervals a.0 a.1) (loaded_intervals a.0 a.1)) is (λ x. own-apart _ (h.own i (place no_object) (omega (arith, many, lt)) x)) apart
+
+-- of two objects whose own data lie apart
+others-at : (objects : List Loaded) (i j : ℕ) → DataLieApart (placed_objects objects) → i < j → j < length objects → Apart (records_of (object_at objects i)) → Apart (records_of (object_at objects j))
+    → ShareNone (loaded_data (object_at objects i)) (loaded_data (object_at objects j))
+others-at objects i j h before lt first second =
+    let many = length-map objects place in
+    let one = placed-at objects i (omega (arith, before, lt)) in
+    let other = placed-at objects j lt in
+    subst (λ (a : Placed). fits.ShareNone a (place (object_at objects j))) one
+    (subst (λ (b : Placed). fits.ShareNone (get_or (placed_objects objects) i (place no_object)) b) other (h.others i j (place no_object) before (omega (arith, many, lt)))) first second
 
 -- of the objects whose files are some
-pub some-apart : (objects : List Loaded) (L : List ℕ → Type 0) → DataLieApart (placed_objects objects) → All (λ (o : Loaded). L o.source.bytes → Apart (records_of o)) objects
-    → All (λ a. All (λ b. L a.source.bytes → L b.source.bytes → AreOneOrApart (loaded_data a) (loaded_data b)) objects) objects
-some-apart objects L h own =
-    All-from_get_or (λ (a : Loaded). All (λ (b : Loaded). L a.source.bytes → L b.source.bytes → AreOneOrApart (loaded_data a) (loaded_data b)) objects) objects no_object (λ i lt.
-    All-from_get_or (λ (b : Loaded). L (object_at objects i).source.bytes → L b.source.bytes → AreOneOrApart (loaded_data (object_at objects i)) (loaded_data b)) objects no_object (λ j lt'.
-    λ a b. any-apart objects i j h lt lt' (own i no_object lt a) (own j no_object lt' b)))
+pub some-own : (objects : List Loaded) (L : List ℕ → Type 0) → DataLieApart (placed_objects objects) → All (λ (o : Loaded). L o.source.bytes → Apart (records_of o)) objects
+    → All (λ o. L o.source.bytes → AreOneOrApart (loaded_data o) (loaded_data o)) objects
+some-own objects L h own =
+    All-from_get_or (λ (o : Loaded). L o.source.bytes → AreOneOrApart (loaded_data o) (loaded_data o)) objects no_object (λ i lt. λ is. own-at objects i h lt (own i no_object lt is))
+
+pub some-others : (objects : List Loaded) (L : List ℕ → Type 0) → DataLieApart (placed_objects objects) → All (λ (o : Loaded). L o.source.bytes → Apart (records_of o)) objects
+    → AllPairs (λ a b. L a.source.bytes → L b.source.bytes → ShareNone (loaded_data a) (loaded_data b)) objects
+some-others objects L h own = λ i j d before lt.
+    let low : i < length objects = omega (arith, before, lt) in
+    let one : get_or objects i no_object ≡ get_or objects i d = get_or_default objects i no_object d low in
+    let other : get_or objects j no_object ≡ get_or objects j d = get_or_default objects j no_object d lt in
+    subst (λ (a : Loaded). L a.source.bytes → L (get_or objects j d).source.bytes → ShareNone (loaded_data a) (loaded_data (get_or objects j d))) one
+    (subst (λ (b : Loaded). L (object_at objects i).source.bytes → L b.source.bytes → ShareNone (loaded_data (object_at objects i)) (loaded_data b)) other
+    (λ a b. others-at objects i j h before lt (own i no_object low a) (own j no_object lt b)))

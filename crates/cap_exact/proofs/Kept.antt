@@ -13,10 +13,10 @@ use Rattle.cap_session.specs.declared.refusal.OpenRefusal.{OpenRefusal}
 use Rattle.cap_session.specs.Exact.{IsFetched, IsInexact, IsReached, IsUnfitIn, RunsAreSound, StatesAreReached, StatesLieApart, blamed}
 use Rattle.cap_session.specs.Loading.{Loaded, fetch_from, records_of}
 use Rattle.cap_session.specs.State.{State}
-use Rattle.cap_exact.specs.Loads.{BlamesForeign, IsForeign, LinkedLieApart, LoadsKeepBounds, Run, outcome_in}
-use Rattle.cap_exact.proofs.Apart.{some-apart}
+use Rattle.cap_exact.specs.Loads.{BlamesForeign, IsForeign, LinkedLieApart, LoadsKeepBounds, OnlyAliasesAreOne, Run, outcome_in}
+use Rattle.cap_exact.proofs.Apart.{some-others, some-own}
 use Rattle.cap_exact.proofs.Bounds.{bounds-of-data}
-use Rattle.cap_exact.proofs.Linked.{FileLaws, linked-fits}
+use Rattle.cap_exact.proofs.Linked.{FileLaws, linked-fits, only-aliases}
 use Rattle.cap_exact.proofs.Standing.{Stands, all-stand, no_object}
 
 -- what a session says of its runs
@@ -52,8 +52,14 @@ by-foreign files store run refusal h =
 
 linked-apart : FileLaws → StatesLieApart → (store : Store) (state : State) → IsReached state → All (IsFetched (fetch_from store)) state.objects → LinkedLieApart state.objects
 linked-apart files apart store state reached fetched =
-    some-apart state.objects IsLinked (apart state reached)
-    (All-weaker (Stands store) (λ (o : Loaded). IsLinked o.source.bytes → Apart (records_of o)) (λ o stands linked. (linked-fits files o.source.bytes linked (records_of o) stands.read).1) state.objects (all-stand store state.objects fetched))
+    let stand : All (Stands store) state.objects = all-stand store state.objects fetched in
+    let own : All (λ (o : Loaded). IsLinked o.source.bytes → Apart (records_of o)) state.objects =
+    All-weaker (Stands store) (λ (o : Loaded). IsLinked o.source.bytes → Apart (records_of o)) (λ o stands linked. (linked-fits files o.source.bytes linked (records_of o) stands.read).1) state.objects stand in
+    record {
+      own = some-own state.objects IsLinked (apart state reached) own;
+      aliases = All-weaker (Stands store) (λ (o : Loaded). OnlyAliasesAreOne o.source.bytes (records_of o)) (λ o stands. only-aliases files o.source.bytes (records_of o) stands.read) state.objects stand;
+      others = some-others state.objects IsLinked (apart state reached) own;
+    }
 
 pub loads-keep : RunLaws → FileLaws → LoadsKeepBounds
 loads-keep laws files store run = record {

@@ -1,11 +1,16 @@
 -- What a start and calls say of exact bounds, where files that a link wrote are among those that are loaded.
-use Rattle.std.specs.Prelude.{◌≡◌, ◌⊎◌, ℕ, false, List, All, IfSome, Contains, Some, Ok, Err, slice_get}
+use Rattle.std.specs.Prelude.{◌≡◌, ◌⊎◌, ◌+◌, ◌<◌, ℕ, true, false, List, All, AllPairs, IfSome, Contains, Some, Ok, Err, length, slice_get, slice_index_or}
 use Rattle.cap_base.specs.Lists.{share_byte}
 use Rattle.cap_base.specs.Outside.{Store, file_in}
-use Rattle.cap_fits.specs.Fits.{loaded_intervals}
+use Rattle.cap_base.specs.declared.kind.Kind.{Kind}
+use Rattle.cap_elf.specs.DynView.{DynRecords}
+use Rattle.cap_elf.specs.Records.{null_symbol}
+use Rattle.cap_fits.specs.Fits.{is_data, loaded_intervals}
 use Rattle.cap_scope.specs.declared.choice.Rule.{Rule}
 use Rattle.cap_reloc.specs.Wanted.{Pair, Content, Number, Untagged, Tagged}
-use Rattle.cap_link.specs.Laws.{IsLinked}
+use Rattle.cap_link.specs.Inputs.{Input}
+use Rattle.cap_link.specs.Laws.{AreAliases, IsAccepted, IsLinked, target_of_name}
+use Rattle.cap_link.specs.Linked.{Linked, file_of_link}
 use Rattle.cap_session.specs.declared.refusal.OpenRefusal.{OpenRefusal}
 use Rattle.cap_session.specs.Calls.{Call, Outcome, outcome_of}
 use Rattle.cap_session.specs.Exact.{IsFetched, IsInexact, IsLoadedBy, IsUnfit, blamed}
@@ -54,10 +59,24 @@ loaded_data o = loaded_intervals (records_of o) o.base
 abbrev pub AreOneOrApart : List (ℕ × ℕ) → List (ℕ × ℕ) → Type 0
 AreOneOrApart xs ys = All (λ x. All (λ y. (x ≡ y) ⊎ (share_byte x y ≡ false)) ys) xs
 
--- the data of all loaded objects that a link wrote are one, or share no byte: of one object, and of any two
-abbrev pub LinkedLieApart : List Loaded → Type 0
-LinkedLieApart objects =
-    All (λ a. All (λ b. IsLinked a.source.bytes → IsLinked b.source.bytes → AreOneOrApart (loaded_data a) (loaded_data b)) objects) objects
+-- none of these intervals shares a byte with one of those
+abbrev pub ShareNone : List (ℕ × ℕ) → List (ℕ × ℕ) → Type 0
+ShareNone xs ys = All (λ x. All (λ y. share_byte x y ≡ false) ys) xs
+
+-- two symbols of data of a linked file that have one interval, with a byte in it, stand for aliases: definitions that cut
+-- one section of one input alike
+abbrev pub OnlyAliasesAreOne : List ℕ → DynRecords → Type 0
+OnlyAliasesAreOne bytes records =
+    (inputs : List Input) (kind : Kind) (l : Linked) (i j : ℕ) → IsAccepted inputs kind l → file_of_link l ≡ bytes → i < length l.lists.plan.symbols → j < length l.lists.plan.symbols
+    → (let s = slice_index_or records.symbols (i + 1) (null_symbol 0) in let t = slice_index_or records.symbols (j + 1) (null_symbol 0) in
+    is_data s ≡ true → is_data t ≡ true → s.value ≡ t.value → s.size ≡ t.size → 0 < s.size → (i ≡ j) ⊎ AreAliases (target_of_name l i) (target_of_name l j))
+
+-- of the loaded objects that a link wrote: in one, two intervals of data are one, or share no byte, and only aliases have
+-- one with a byte in it; and no interval of one object shares a byte with one of another
+pub record LinkedLieApart (objects : List Loaded) : Type 0 where
+  pub own : All (λ o. IsLinked o.source.bytes → AreOneOrApart (loaded_data o) (loaded_data o)) objects
+  pub aliases : All (λ o. OnlyAliasesAreOne o.source.bytes (records_of o)) objects
+  pub others : AllPairs (λ a b. IsLinked a.source.bytes → IsLinked b.source.bytes → ShareNone (loaded_data a) (loaded_data b)) objects
 
 -- the bounds of a capability that isn't sealed are those of data of the object in which its definition stands
 abbrev pub IsBoundOfData : List Loaded → Content → Type 0

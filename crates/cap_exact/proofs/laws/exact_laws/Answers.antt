@@ -5,4 +5,4 @@ pub returns : goal.returns
 returns c =
     let states = c.state_laws.ensures in
     let files = c.link_laws.ensures in
-    loads-keep (record { reached = states.reached; apart = states.apart; runs = states.runs }) (record { reads = files.reads; others = files.others; exact = files.exact })
+    loads-keep (record { reached = states.reached; apart = states.apart; runs = states.runs }) (record { reads = files.reads; others = files.others; exact = files.exact; aliases = files.aliases })
