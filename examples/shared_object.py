@@ -5,15 +5,15 @@ segments one behind the other: tables, code, what is read-only once it is reloca
 
 A place is a pair of the part in which it stands, "text" or "data", and the offset there."""
 import sys
-from dataclasses import dataclass, field
+from dataclasses import dataclass, field, replace
 from pathlib import Path
 
 sys.path.insert(0, str(Path(__file__).resolve().parent.parent / "tools"))
-from elf import (CAPABILITY, DYNAMIC, ENTRIES, ENTRIES_SIZE, FUNCTION, FUNCTION_ENTRY, GLOBAL, HASH, LOAD, NEEDED,
-                 NOTYPE, NULL_TAG, OBJECT, READ_ONLY_ENTRY, RELOCATION, RELOCATIONS, RELOCATIONS_SIZE,
-                 RELOCATION_SIZE, RELRO, SHARED, SONAME, STRINGS, STRINGS_SIZE, SYMBOL, SYMBOLS, SYMBOL_SIZE,
-                 WRITABLE_ENTRY, Strings, file_header, hash_words, program_header, tag_bytes, u32, u64,
-                 up)  # noqa: E402, F401
+from elf import (CAPABILITY, DYNAMIC, ENTRIES, ENTRIES_SIZE, FUNCTION, FUNCTION_ENTRY, GLOBAL, GNU_HASH, HASH, LOAD,
+                 NEEDED, NOTYPE, NULL_TAG, OBJECT, READ_ONLY_ENTRY, RELOCATION, RELOCATIONS, RELOCATIONS_SIZE,
+                 RELOCATION_SIZE, RELRO, SHARED, SONAME, STRINGS, STRINGS_SIZE, SYMBOL, SYMBOLS, SYMBOL_SIZE, WEAK,
+                 WRITABLE_ENTRY, Strings, file_header, gnu_hash, gnu_words, hash_words, program_header, tag_bytes,
+                 u32, u64, up)  # noqa: E402, F401
 
 PAGE = 4096
 READ, CODE, WRITE = 4, 5, 6
@@ -52,6 +52,8 @@ class Relocation:
 
 @dataclass
 class SharedObject:
+    """An object; its table of names is DT_HASH alone or DT_GNU_HASH alone, with as many buckets as linkers make, or as
+    it is told."""
     text: bytes = b""
     data: bytes = b""
     symbols: list[Symbol] = field(default_factory=list)
@@ -59,13 +61,33 @@ class SharedObject:
     relocations: list[Relocation] = field(default_factory=list)
     needed: list[str] = field(default_factory=list)
     soname: str | None = None
+    gnu: bool = False
+    buckets: int | None = None
+
+
+def in_buckets(o: SharedObject) -> tuple[SharedObject, list[int]]:
+    """The same with its symbols in the order of DT_GNU_HASH, undefined ones first, and the words of that table."""
+    hashes = [gnu_hash(s.name.encode()) for s in o.symbols]
+    undefined = [i for i, s in enumerate(o.symbols) if s.place is None]
+    defined = [i for i, s in enumerate(o.symbols) if s.place is not None]
+    count = o.buckets or max(1, len(defined) // 4)
+    defined.sort(key=lambda i: hashes[i] % count)
+    order = undefined + defined
+    numbers = {0: 0} | {old + 1: new for new, old in enumerate(order, 1)}
+    moved = replace(o, symbols=[o.symbols[i] for i in order],
+                    relocations=[replace(r, symbol=numbers[r.symbol]) for r in o.relocations])
+    return moved, gnu_words([hashes[i] for i in defined], len(undefined) + 1, count)
 
 
 def written(o: SharedObject) -> bytes:
     """The bytes of the file. The entry point is 0: there is nothing to run."""
+    if o.gnu:
+        o, words = in_buckets(o)
+    else:
+        words = hash_words([s.name.encode() for s in o.symbols], o.buckets)
     strings = Strings()
-    places = {name: strings.place(name) for name in [s.name for s in o.symbols] + [o.soname or ""] + o.needed}
-    words = hash_words([s.name.encode() for s in o.symbols])
+    names = dict.fromkeys([*(s.name for s in o.symbols), o.soname or "", *o.needed])
+    places = {name: strings.place(name) for name in names}
 
     symbols_at = 64 + 6 * 56
     relocations_at = symbols_at + 24 * (len(o.symbols) + 1)
@@ -78,8 +100,8 @@ def written(o: SharedObject) -> bytes:
 
     dynamic = [(NEEDED, places[name]) for name in o.needed]
     dynamic += [(SONAME, places[o.soname])] if o.soname else []
-    dynamic += [(HASH, hash_at), (STRINGS, strings_at), (SYMBOLS, symbols_at), (STRINGS_SIZE, len(strings.contents)),
-                (SYMBOL_SIZE, 24)]
+    dynamic += [(GNU_HASH if o.gnu else HASH, hash_at), (STRINGS, strings_at), (SYMBOLS, symbols_at),
+                (STRINGS_SIZE, len(strings.contents)), (SYMBOL_SIZE, 24)]
     if o.relocations:
         dynamic += [(RELOCATIONS, relocations_at), (RELOCATIONS_SIZE, 24 * len(o.relocations)), (RELOCATION_SIZE, 24)]
     if o.entries:

@@ -42,7 +42,7 @@ MACHINES = {3: "x86", 8: "MIPS", 20: "PowerPC", 21: "64-bit PowerPC", 22: "s390"
 LOAD, DYNAMIC, THREAD_SEGMENT, RELRO = 1, 2, 7, 0x6474E552
 NULL_TAG, NEEDED, PLT_SIZE, HASH, STRINGS, SYMBOLS, RELOCATIONS, RELOCATIONS_SIZE = 0, 1, 2, 4, 5, 6, 7, 8
 RELOCATION_SIZE, STRINGS_SIZE, SYMBOL_SIZE, SONAME, PLT_RELOCATIONS, INIT, FINI = 9, 10, 11, 14, 23, 25, 26
-INIT_SIZE, FINI_SIZE, ENTRIES, ENTRIES_SIZE = 27, 28, 0x7000C000, 0x7000C001
+INIT_SIZE, FINI_SIZE, ENTRIES, ENTRIES_SIZE, GNU_HASH = 27, 28, 0x7000C000, 0x7000C001, 0x6FFFFEF5
 FUNCTION_ENTRY, READ_ONLY_ENTRY, WRITABLE_ENTRY = 1 << 63, 1 << 62, 0
 
 FILE_HEADER = struct.Struct("<HHIQQQIHHHHHH")
@@ -201,14 +201,33 @@ def gabi_hash(name: bytes) -> int:
     return h
 
 
-def hash_words(names: list[bytes]) -> list[int]:
+def hash_words(names: list[bytes], bucket_count: int | None = None) -> list[int]:
     """DT_HASH over the names of the symbols behind the null symbol."""
     count = len(names) + 1
-    buckets, chains = [0] * max(1, count // 2), [0] * count
+    buckets, chains = [0] * (bucket_count or max(1, count // 2)), [0] * count
     for i, name in enumerate(names, 1):
         bucket = gabi_hash(name) % len(buckets)
         chains[i], buckets[bucket] = buckets[bucket], i
     return [len(buckets), count, *buckets, *chains]
+
+
+def gnu_hash(name: bytes) -> int:
+    h = 5381
+    for byte in name:
+        h = (h * 33 + byte) & 0xFFFFFFFF
+    return h
+
+
+def gnu_words(hashes: list[int], first: int, bucket_count: int) -> list[int]:
+    """DT_GNU_HASH over symbols with these hashes that stand from the number `first` on, in the order of their buckets.
+    Its filter lets every name pass."""
+    buckets = [0] * bucket_count
+    chain = []
+    for number, (h, following) in enumerate(zip(hashes, [*hashes[1:], None]), first):
+        is_last = following is None or following % bucket_count != h % bucket_count
+        buckets[h % bucket_count] = buckets[h % bucket_count] or number
+        chain.append(h | 1 if is_last else h & ~1)
+    return [bucket_count, first, 1, 0, 0xFFFFFFFF, 0xFFFFFFFF, *buckets, *chain]
 
 
 def symbol_bytes(name_at: int, symbol: Symbol, section: int) -> bytes:
