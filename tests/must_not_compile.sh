@@ -2,11 +2,11 @@
 # What the types alone refuse: each snippet here must not compile, with the named error. No proof is tried.
 #
 # A capability can be made from the root of a mapping alone, and a root from a span of addresses, which can be neither
-# copied nor let go.
+# copied nor let go. A memory can be made from a root alone, and a tag is set by a capability alone.
 set -u
 cd "$(dirname "$0")/.." || exit 2
 . tests/beside.sh
-beside pin "cap_conc cap_own" cap_conc cap_own
+beside pin "cap_base cap_conc cap_own cap_mem" cap_base cap_conc cap_own cap_mem
 
 failed=0
 
@@ -91,6 +91,43 @@ use cap_own::Root;
 
 pub fn lose(root: Root) -> u64 {
     root.len()
+}
+CODE
+
+refuse private-field "a memory with tags of one's own" <<'CODE'
+use cap_mem::Memory;
+
+pub fn forge(bytes: Vec<u8>, tags: Vec<u64>) -> Memory {
+    Memory {
+        base: 0,
+        bytes,
+        tags,
+    }
+}
+CODE
+
+refuse private-field "a tag that is set by hand" <<'CODE'
+use cap_mem::Memory;
+
+pub fn forge(memory: &mut Memory, tags: Vec<u64>) {
+    memory.tags = tags;
+}
+CODE
+
+refuse private-field "other bytes under a tag" <<'CODE'
+use cap_mem::Memory;
+
+pub fn forge(memory: &mut Memory, bytes: Vec<u8>) {
+    memory.bytes = bytes;
+}
+CODE
+
+refuse mismatched-types "a word that is stored as a capability" <<'CODE'
+use cap_conc::Word;
+use cap_mem::Memory;
+
+pub fn forge(memory: &mut Memory, word: Word) {
+    memory.store_cap(0, word, 0);
 }
 CODE
 
